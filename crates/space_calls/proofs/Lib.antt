@@ -29,3 +29,4 @@ pub mod SeesLemmas
 pub mod OnLemmas
 pub mod SizeLemmas
 mod LookLemmas
+mod OutcomeLemmas

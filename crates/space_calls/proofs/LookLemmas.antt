@@ -1,9 +1,20 @@
 -- A core after calls that only look.
-use Rattle.std.proofs.Common.{◌≡◌, List, inl, refl, sym, subst, ◌∙◌}
+use Rattle.std.proofs.Common.{◌≡◌, List, None, Some, Result, Ok, Err, inl, refl, subst, ◌∙◌}
+use Rattle.std.specs.Prelude.{MatchResult}
 use Rattle.labelled_disk.specs.declared.disk.Disk.{Ghosts}
+use Rattle.labelled_disk.specs.declared.evidence.Halt.{Halt}
+use Rattle.labelled_disk.specs.declared.evidence.Halt.TheVariants as halt
 use Rattle.labelled_disk.specs.Sectors.{Sector}
 use Rattle.file_map.specs.FileMap.{Triples}
+use Rattle.flat_machine.specs.declared.call.Call.{Call}
+use Rattle.flat_machine.specs.declared.call.Refusal.{Refusal}
+use Rattle.flat_machine.specs.declared.call.Reply.{Reply}
+use Rattle.flat_machine.specs.declared.call.Reply.TheVariants as reply
 use Rattle.flat_machine.specs.declared.space.Space.{Space}
+use Rattle.flat_machine.specs.Allows.{Answers as AllowedAs}
+use Rattle.flat_machine.specs.Machine.{Machine}
+use Rattle.flat_machine.specs.Next.{next}
+use Rattle.flat_machine.specs.Refusal.{refusal}
 use Rattle.swapper_kernel.specs.GoesLaws.{makes_then}
 use Rattle.swapper_kernel.specs.HaltLaws.{brings_then}
 use Rattle.filer_kernel.specs.View.{FitsLayout, accepted}
@@ -11,10 +22,17 @@ use Rattle.fault_core.specs.declared.core_over.Core.{Core}
 use Rattle.fault_core.specs.Core.{Knows, state}
 use Rattle.fault_core.specs.Reach.{BringsOwn, Reaches}
 use Rattle.fault_core.proofs.ReachLemmas.{reaches_itself, reaches_then}
-use Rattle.table_calls.specs.Answers.{Asked}
-use Rattle.space_calls.specs.Calls.{Looks}
+use Rattle.table_calls.specs.Answers.{Asked, Retabled}
+use Rattle.file_manager.specs.declared.volume.Volume.{Volume}
+use Rattle.running_words.specs.Running.{Carried, Runs}
+use Rattle.running_words.specs.Session.{AreInForm}
+use Rattle.running_words.specs.Stages.{Passes}
+use Rattle.space_calls.specs.Calls.{Answers, Looks}
+use Rattle.space_calls.specs.Outcomes.{WaitsFor}
 use Rattle.space_calls.specs.Sees.{StillSees}
-use Rattle.space_calls.proofs.RunLemmas.{knows, moved_size, reached_makes, reached_runs, size_kept}
+use Rattle.space_calls.proofs.CarryLemmas.{allowed_done, refused_carried}
+use Rattle.space_calls.proofs.RangeLemmas.{no_frame_came}
+use Rattle.space_calls.proofs.RunLemmas.{if_failed, if_revealed, knows, moved_size, quiet_passes, reached_makes, reached_runs, retabled_makes, retabled_then, size_kept}
 
 module _ {D A : Type 0} {G : Ghosts D} where
   pub looks_itself : (core : Core D A G) → Looks core core
@@ -68,3 +86,49 @@ module _ {D A : Type 0} {G : Ghosts D} where
   -- a question after others
   pub looks_asked_then : {a b c : Core D A G} → FitsLayout (state a) → Looks a b → Asked b c → StillSees b c → Looks a c
   looks_asked_then size first asked still = looks_then first (looks_asked (looks_fits first size) asked still)
+
+  -- the disk was waited for
+  pub looks_waited : {old new : Core D A G} → FitsLayout (state old) → WaitsFor old new → Looks old new
+  looks_waited {old} {new} size waits = looks_reached size waits.reaches (no_frame_came (state old).slots (state new).slots waits.frames) waits.intervals waits.known waits.still
+
+  -- ---- What a call that only looked answers.
+
+  module _ {old new : Core D A G} (looks : Looks old new) (form : AreInForm (state old).disk) {volume : Volume} {m : Machine} (r : Runs old volume m) (call : Call) where
+    -- it was refused
+    pub looked_word : (word : Refusal) → refusal m call ≡ Some word → Answers m call old new volume (Ok (reply.Refused word))
+    looked_word word is = record {
+      carried = refused_carried new volume m call word is (looks.runs volume m r);
+      sound = tt;
+      passes = quiet_passes old new volume m call form r looks.makes;
+    }
+
+    -- the disk failed
+    pub looked_fault : (e : Halt) → e ≡ halt.Disk → Answers m call old new volume (Err e)
+    looked_fault e is = record { carried = tt; sound = is; passes = quiet_passes old new volume m call form r looks.makes }
+
+    -- it is done, and changes nothing
+    pub looked_done : (given : Reply) → refusal m call ≡ None → AllowedAs m call given → m ≡ next m call → Answers m call old new volume (Ok given)
+    looked_done given free allowed stays = record {
+      carried = record { allowed = allowed_done m call given free allowed; runs = subst (λ (n : Machine). Runs new volume n) stays (looks.runs volume m r) };
+      sound = tt;
+      passes = quiet_passes old new volume m call form r looks.makes;
+    }
+
+  -- what was given, or why not, is what the call answers
+  pub answers_of : {old new : Core D A G} {volume : Volume} {m : Machine} {call : Call} (r : Result Reply Halt) → MatchResult r (Carried m call new volume) (λ e. e ≡ halt.Disk) → Passes m call (state old).disk (state new).disk
+      → Answers m call old new volume r
+  answers_of {new = new} {volume = volume} {m = m} {call = call} r h passes = record {
+    carried = if_revealed r (Carried m call new volume) (Carried m call new volume) (λ e. e ≡ halt.Disk) h (λ reply one. one);
+    sound = if_failed r (Carried m call new volume) (λ e. e ≡ halt.Disk) h;
+    passes = passes;
+  }
+
+  -- ---- What a call answers that changed the tables.
+
+  module _ {old mid : Core D A G} (retabled : Retabled old mid) (form : AreInForm (state old).disk) {volume : Volume} {m : Machine} (r : Runs old volume m) (call : Call) where
+    pub retabled_reply : {new : Core D A G} → new ≡ mid → {given : Reply} → Carried m call new volume given → Answers m call old new volume (Ok given)
+    retabled_reply {new} same carried = record { carried = carried; sound = tt; passes = quiet_passes old new volume m call form r (retabled_then old mid new retabled same) }
+
+    -- the disk failed
+    pub retabled_fault : (e : Halt) → e ≡ halt.Disk → Answers m call old mid volume (Err e)
+    retabled_fault e is = record { carried = tt; sound = is; passes = quiet_passes old mid volume m call form r (retabled_makes old mid retabled) }

@@ -1,5 +1,5 @@
 -- A disk that is settled reveals the same, and a core over it knows the same.
-use Rattle.std.proofs.Common.{inl, ℕ, List, [], ◌∙◌, refl, arith}
+use Rattle.std.proofs.Common.{inl, ℕ, List, [], ◌∙◌, refl}
 use Rattle.labelled_disk.specs.Calls.{RevealsSame}
 use Rattle.labelled_disk.specs.Sectors.{Sector}
 use Rattle.labelled_disk.specs.State.{DiskState}

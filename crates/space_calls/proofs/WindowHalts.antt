@@ -1,6 +1,5 @@
 -- Why a window could not be taken away, or made read-only.
-use Rattle.std.proofs.Common.{◌≡◌, inl, inr, ℕ, ◌+◌, Result, Ok, Err, subst, arith}
-use Rattle.std.specs.Prelude.{IfErr}
+use Rattle.std.proofs.Common.{◌≡◌, inl, inr, ℕ, ◌+◌, subst, arith}
 use Rattle.labelled_disk.specs.declared.evidence.Halt.{Halt}
 use Rattle.space_tables.specs.Form.{Breaks, BreaksSlot}
 use Rattle.space_tables.specs.Shows.{IsRunAt}
@@ -43,15 +42,11 @@ module _ (v w : View) (is : IsLayout v.layout) (space : ℕ) (reaches : Reaches 
     part_change first to e halts = halts_before v w is reaches (TablesBreak w (Breaks now)) (BreaksPart v count first to) (λ page breaks. inr (change_before page breaks)) z z (omega arith) e halts
 
     -- the pages of the space could not be looked up, or its record not be changed, after it was found
-    window_halt : (run : ℕ × ℕ) → TablesSay v (λ b. IsRunAt b space) run → (e : Halt) → ReachHalts (BreaksPart w now run.0 (run.0 + run.1)) w z e → ReachHalts (BreaksWindow v count space) v z e
+    pub window_halt : (run : ℕ × ℕ) → TablesSay v (λ b. IsRunAt b space) run → (e : Halt) → ReachHalts (BreaksPart w now run.0 (run.0 + run.1)) w z e → ReachHalts (BreaksWindow v count space) v z e
     window_halt run read e halts = halts_before v w is reaches (BreaksPart w now run.0 (run.0 + run.1)) (BreaksWindow v count space) (λ page breaks. elim breaks [
       | inl within ↦ inl (inr (in_space v w is space reaches count now same z run read page within))
       | inr any ↦ inr (change_before page any)
     ]) z z (omega arith) e halts
-
-    pub if_window_halt : {X : Type 0} (run : ℕ × ℕ) → TablesSay v (λ b. IsRunAt b space) run → (r : Result X Halt) → IfErr r (ReachHalts (BreaksPart w now run.0 (run.0 + run.1)) w z) → IfErr r (ReachHalts (BreaksWindow v count space) v z)
-    if_window_halt run read (Ok answer) halts = tt
-    if_window_halt run read (Err e) halts = window_halt run read e halts
 
 -- a page of a range could not be looked up
 pub part_halt : (v w : View) (is : IsLayout v.layout) (count first to : ℕ) (e : Halt) → ReachHalts (BreaksWithin v count first to) v w e → ReachHalts (BreaksPart v count first to) v w e

@@ -7,3 +7,5 @@ pub mod ReasonLaws
 pub mod Sees
 pub mod FilesLaws
 pub mod Calls
+pub mod Outcomes
+pub mod OutcomesLaws

@@ -1,7 +1,5 @@
 //! Pages of a space that are brought in before they are asked for.
-ghost use Rattle.std.specs.Prelude.{◌≡◌, ◌≤◌, ◌+◌, ◌/◌, ℕ, length, Some, Err, IfErr, OnOk, List};
-ghost use Rattle.labelled_disk.specs.declared.evidence.Halt.TheVariants as halt;
-ghost use Rattle.labelled_disk.specs.Calls.{Rose};
+ghost use Rattle.std.specs.Prelude.{◌≡◌, ◌≤◌, ◌+◌, ◌/◌, ℕ, length, Some, OnOk};
 ghost use Rattle.flat_machine.specs.declared.call.Call.TheVariants as call;
 ghost use Rattle.flat_machine.specs.declared.space.Space.{Space};
 ghost use Rattle.flat_machine.specs.Machine.{Machine};
@@ -10,18 +8,14 @@ ghost use Rattle.session_words.specs.Volume.{volume_page};
 ghost use Rattle.file_manager.specs.declared.volume.Volume.{Volume};
 ghost use Rattle.fault_core.specs.Activate.{AreBrought, IsActive};
 ghost use Rattle.fault_core.specs.Core.{kept, state};
-ghost use Rattle.fault_core.specs.Reach.{BringsOwn, ReachHalts, TouchHalts};
+ghost use Rattle.fault_core.specs.Reach.{ReachHalts, TouchHalts};
 ghost use Rattle.running_words.specs.Bound.{CostsOther};
 ghost use Rattle.running_words.specs.Running.{Runs};
-ghost use Rattle.running_words.specs.Session.{WroteIn};
-ghost use Rattle.filer_kernel.specs.Evidence.{ShowsEvidence};
 ghost use Rattle.space_calls.specs.Ranges.{BreaksRange, space_units};
-ghost use Rattle.running_words.specs.Moving.{Moves};
-ghost use Rattle.fault_core.specs.NeverBlames.{NeverBlamesTables};
-ghost use Rattle.space_calls.specs.Sees.{SeesOn, StillOn};
-ghost use Rattle.fault_core.specs.Lack.{MissesPage, Sees};
+ghost use Rattle.space_calls.specs.Sees.{StillOn};
 ghost use Rattle.filer_kernel.specs.View.{FitsLayout};
 ghost use Rattle.space_calls.specs.Calls.{Answers};
+ghost use Rattle.space_calls.specs.Outcomes.{HaltsBy, HaltsToBring, MovesOver, MovesOwn};
 
 use fault_core::Core;
 use flat_machine::Reply;
@@ -34,18 +28,11 @@ pub fn activate<D: Disk, A: Allocator>(core: &mut Core<D, A>, space: u32) -> Res
     requires size { FitsLayout (state core.old) }
     ensures answers { (volume : Volume) (m : Machine) → Runs core.old volume m
         → Answers m (call.Activate space) core.old core.new volume result }
-    ensures counted { result ≡ Err halt.Disk → Rose (state core.old).disk.faults (state core.new).disk.faults }
-    ensures cause { IfErr result
-        (TouchHalts (BreaksRange (state core.old) core.old.intervals space) (state core.old) (state core.new)) }
-    ensures missing { (ss : List Space) → Sees (state core.old) (kept core.old) core.old.intervals ss
-        → IfErr result (MissesPage (space_units ss space)) }
-    ensures evidence_seen { IfErr result (ShowsEvidence (state core.new).disk) }
-    ensures wrote { WroteIn (volume_page) (state core.old).disk (state core.old).slots (state core.new).disk
-        (state core.new).slots }
+    ensures fails { HaltsToBring
+        (TouchHalts (BreaksRange (state core.old) core.old.intervals space) (state core.old) (state core.new))
+        (λ ss. space_units ss space) core.old core.new result }
+    ensures went { MovesOver volume_page (state core.old) (state core.new) }
     ensures sees { OnOk result (StillOn core.old core.new) }
-    ensures right { SeesOn core.old → IfErr result NeverBlamesTables }
-    ensures moves { Moves (state core.old) (state core.new) }
-    ensures layout { (state core.new).layout ≡ (state core.old).layout }
     ensures cost { CostsOther (state core.old).disk (state core.new).disk }
     ensures whole { (volume : Volume) (m : Machine) (s : Space) → Runs core.old volume m
         → space_at m.spaces space ≡ Some s
@@ -73,17 +60,11 @@ pub fn try_activate<D: Disk, A: Allocator>(core: &mut Core<D, A>, space: u32) ->
     requires size { FitsLayout (state core.old) }
     ensures answers { (volume : Volume) (m : Machine) → Runs core.old volume m
         → Answers m (call.Activate space) core.old core.new volume result }
-    ensures counted { result ≡ Err halt.Disk → Rose (state core.old).disk.faults (state core.new).disk.faults }
-    ensures cause { IfErr result
-        (ReachHalts (BreaksRange (state core.old) core.old.intervals space) (state core.old) (state core.new)) }
-    ensures evidence_seen { IfErr result (ShowsEvidence (state core.new).disk) }
-    ensures wrote { WroteIn (volume_page) (state core.old).disk (state core.old).slots (state core.new).disk
-        (state core.new).slots }
+    ensures fails { HaltsBy
+        (ReachHalts (BreaksRange (state core.old) core.old.intervals space) (state core.old) (state core.new))
+        core.old core.new result }
+    ensures went { MovesOwn (state core.old) (state core.new) }
     ensures sees { OnOk result (StillOn core.old core.new) }
-    ensures right { SeesOn core.old → IfErr result NeverBlamesTables }
-    ensures came { BringsOwn (state core.old).slots (state core.new).slots }
-    ensures moves { Moves (state core.old) (state core.new) }
-    ensures layout { (state core.new).layout ≡ (state core.old).layout }
     ensures cost { (state core.new).disk.transfers ≤ (state core.old).disk.transfers + 28 }
 {
     match bounds(core, space) {

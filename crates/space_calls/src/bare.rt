@@ -1,20 +1,17 @@
 //! Whether no space is mapped, where that is cheap to reveal.
-ghost use Rattle.std.specs.Prelude.{◌≡◌, ◌≤◌, ◌+◌, true, false, Err, IfOk, IfErr};
+ghost use Rattle.std.specs.Prelude.{◌≡◌, ◌≤◌, ◌+◌, true, false, MatchResult};
 ghost use Rattle.std.specs.List.{list_any};
 ghost use Rattle.labelled_disk.specs.declared.evidence.Halt.TheVariants as halt;
-ghost use Rattle.labelled_disk.specs.Calls.{Rose};
 ghost use Rattle.flat_machine.specs.Machine.{Machine};
 ghost use Rattle.flat_machine.specs.Space.{is_mapped};
 ghost use Rattle.file_manager.specs.declared.volume.Volume.{Volume};
 ghost use Rattle.running_words.specs.Running.{Runs};
-ghost use Rattle.filer_kernel.specs.Evidence.{ShowsEvidence};
 ghost use Rattle.fault_core.specs.Core.{state};
 ghost use Rattle.fault_core.specs.Reach.{ReachHalts};
 ghost use Rattle.fault_core.specs.Revealed.{BreaksTables};
-ghost use Rattle.fault_core.specs.NeverBlames.{NeverBlamesTables};
-ghost use Rattle.space_calls.specs.Sees.{SeesOn};
 ghost use Rattle.filer_kernel.specs.View.{FitsLayout};
 ghost use Rattle.space_calls.specs.Calls.{Looks};
+ghost use Rattle.space_calls.specs.Outcomes.{HaltsBy};
 
 use fault_core::Core;
 use labelled_disk::{Disk, Halt};
@@ -25,14 +22,11 @@ use std::alloc::Allocator;
 pub(crate) fn shows_nothing<D: Disk, A: Allocator>(core: &mut Core<D, A>) -> Result<bool, Halt>
     requires size { FitsLayout (state core.old) }
     ensures answer { (volume : Volume) (m : Machine) → Runs core.old volume m
-        → IfOk result (λ none. none ≡ true → list_any is_mapped m.spaces ≡ false) }
+        → MatchResult result (λ none. none ≡ true → list_any is_mapped m.spaces ≡ false) (λ e. e ≡ halt.Disk) }
     ensures looks { Looks core.old core.new }
-    ensures sound { (volume : Volume) (m : Machine) → Runs core.old volume m → IfErr result (λ e. e ≡ halt.Disk) }
-    ensures counted { result ≡ Err halt.Disk → Rose (state core.old).disk.faults (state core.new).disk.faults }
-    ensures cause { IfErr result
-        (ReachHalts (BreaksTables (state core.old) core.old.intervals 0) (state core.old) (state core.new)) }
-    ensures evidence_seen { IfErr result (ShowsEvidence (state core.new).disk) }
-    ensures right { SeesOn core.old → IfErr result NeverBlamesTables }
+    ensures fails { HaltsBy
+        (ReachHalts (BreaksTables (state core.old) core.old.intervals 0) (state core.old) (state core.new))
+        core.old core.new result }
     ensures cost { (state core.new).disk.transfers ≤ (state core.old).disk.transfers + 196 }
 {
     if core.interval_count() != 1 {

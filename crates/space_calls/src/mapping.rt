@@ -1,17 +1,13 @@
 //! Windows that spaces get.
-ghost use Rattle.std.specs.Prelude.{◌≡◌, ◌⊎◌, ◌≤◌, ◌+◌, List, Some, None, Ok, Err, IfOk, IfErr};
+ghost use Rattle.std.specs.Prelude.{◌≡◌, ◌⊎◌, ◌≤◌, ◌+◌, List, Some, None, IfOk, IfErr, MatchResult};
 ghost use Rattle.labelled_disk.specs.declared.evidence.Halt.TheVariants as halt;
-ghost use Rattle.labelled_disk.specs.Calls.{Rose};
 ghost use Rattle.flat_machine.specs.declared.call.Call.TheVariants as call;
 ghost use Rattle.flat_machine.specs.declared.space.Space.{Space};
 ghost use Rattle.flat_machine.specs.Machine.{Machine};
 ghost use Rattle.flat_machine.specs.Refusal.{refusal};
-ghost use Rattle.session_words.specs.Volume.{volume_page};
 ghost use Rattle.file_manager.specs.declared.volume.Volume.{Volume};
 ghost use Rattle.running_words.specs.Bound.{CostsOther};
 ghost use Rattle.running_words.specs.Running.{Runs};
-ghost use Rattle.running_words.specs.Session.{WroteIn};
-ghost use Rattle.std.specs.Prelude.{[]};
 ghost use Rattle.flat_machine.specs.IsMachine.{IsMachine};
 ghost use Rattle.flat_machine.specs.Next.{set_window};
 ghost use Rattle.projection_laws.specs.Laws.{WindowFits};
@@ -20,19 +16,16 @@ ghost use Rattle.space_tables.specs.Shows.{window_of};
 ghost use Rattle.flat_machine.specs.declared.call.Reply.TheVariants as answer;
 ghost use Rattle.table_calls.specs.Answers.{Reveals, IfGiven};
 ghost use Rattle.space_calls.specs.Mapping.{IsInReach, MayShow, IsLastFrom, ReachesOver};
-ghost use Rattle.filer_kernel.specs.Evidence.{ShowsEvidence};
 ghost use Rattle.fault_core.specs.Core.{state, kept};
 ghost use Rattle.space_calls.specs.Halts.{ChangeHalts, MapFileHalts};
-ghost use Rattle.running_words.specs.Moving.{Moves};
-ghost use Rattle.fault_core.specs.NeverBlames.{NeverBlamesTables};
-ghost use Rattle.fault_core.specs.Reach.{BringsOwn};
-ghost use Rattle.space_calls.specs.Sees.{SeesOn, SeesFiles, IsShown, StillOnOr};
+ghost use Rattle.space_calls.specs.Sees.{SeesFiles, IsShown, StillOnOr};
 ghost use Rattle.fault_core.specs.Lack.{Sees};
 ghost use Rattle.labelled_disk.specs.Sectors.{Sector};
 ghost use Rattle.file_map.specs.FileMap.{Triples};
 ghost use Rattle.filer_kernel.specs.Triples.{AreOf, MapIs};
-ghost use Rattle.filer_kernel.specs.View.{FitsLayout, HasMemory, kept_by, MakesOnly};
+ghost use Rattle.filer_kernel.specs.View.{FitsLayout, HasMemory, kept_by};
 ghost use Rattle.space_calls.specs.Calls.{Answers, Looks};
+ghost use Rattle.space_calls.specs.Outcomes.{HaltsBy, MakesOwn, MovesOwn};
 
 use crate::framing::frame_count;
 use crate::naming::named_file;
@@ -61,10 +54,9 @@ pub fn give_window<D: Disk, A: Allocator>(
     ensures sound { (volume : Volume) (m : Machine) (x : Space) → Runs core.old volume m → MayHaveWindow m.spaces x
         → x.handle ≡ space → x.window ≡ None → WindowFits x.pages (window_of shown)
         → IfErr result (λ e. e ≡ halt.Disk) }
-    ensures counted { result ≡ Err halt.Disk → Rose (state core.old).disk.faults (state core.new).disk.faults }
-    ensures cause { IfErr result (ChangeHalts core.old.intervals (state core.old) (state core.new)) }
-    ensures evidence_seen { IfErr result (ShowsEvidence (state core.new).disk) }
-    ensures makes { MakesOnly volume_page [] (state core.old) (state core.new) }
+    ensures fails { HaltsBy (ChangeHalts core.old.intervals (state core.old) (state core.new))
+        core.old core.new result }
+    ensures went { MakesOwn (state core.old) (state core.new) }
     ensures sees { (ss : List Space) (x : Space) → Sees (state core.old) (kept core.old) core.old.intervals ss
         → MayHaveWindow ss x → x.handle ≡ space → WindowFits x.pages (window_of shown)
         → IfOk result
@@ -72,10 +64,6 @@ pub fn give_window<D: Disk, A: Allocator>(
         (reply ≡ answer.Done)
         × SeesFiles (λ file last. IsShown ss file last ⊎ ((file ≡ shown.id) × IsLastFrom ss space shown.page last))
         core.new) }
-    ensures right { SeesOn core.old → IfErr result NeverBlamesTables }
-    ensures came { BringsOwn (state core.old).slots (state core.new).slots }
-    ensures moves { Moves (state core.old) (state core.new) }
-    ensures layout { (state core.new).layout ≡ (state core.old).layout }
     ensures cost { (state core.new).disk.transfers ≤ (state core.old).disk.transfers + 57344 }
 {
     let answer = match set_window(core, space, Some(shown)) {
@@ -106,15 +94,13 @@ fn may_map<D: Disk, A: Allocator>(
 ) -> Result<Result<(), Refusal>, Halt>
     requires size { FitsLayout (state core.old) }
     ensures answer { (volume : Volume) (m : Machine) → Runs core.old volume m
-        → IfOk result (Reveals (refusal m (call.Map space id page writable)) (λ _. IsInReach m space page)) }
+        → MatchResult result (Reveals (refusal m (call.Map space id page writable)) (λ _. IsInReach m space page))
+        (λ e. e ≡ halt.Disk) }
     ensures looks { Looks core.old core.new }
-    ensures sound { (volume : Volume) (m : Machine) → Runs core.old volume m → IfErr result (λ e. e ≡ halt.Disk) }
-    ensures counted { result ≡ Err halt.Disk → Rose (state core.old).disk.faults (state core.new).disk.faults }
-    ensures cause { IfErr result (MapFileHalts space id core.old.intervals (state core.old) (state core.new)) }
-    ensures evidence_seen { IfErr result (ShowsEvidence (state core.new).disk) }
+    ensures fails { HaltsBy (MapFileHalts space id core.old.intervals (state core.old) (state core.new))
+        core.old core.new result }
     ensures seen { (ss : List Space) → Sees (state core.old) (kept core.old) core.old.intervals ss
         → IfOk result (IfGiven (λ _. MayShow ss space id page writable)) }
-    ensures right { SeesOn core.old → IfErr result NeverBlamesTables }
     ensures found { (ss : List Space) (m : List Sector) (named : Triples)
         → Sees (state core.old) (kept core.old) core.old.intervals ss → HasMemory (state core.old) m
         → MapIs (state core.old).layout named m → AreOf named (kept_by (state core.old))
@@ -159,11 +145,9 @@ pub fn map<D: Disk, A: Allocator>(
     requires size { FitsLayout (state core.old) }
     ensures answers { (volume : Volume) (m : Machine) → Runs core.old volume m
         → Answers m (call.Map space id page writable) core.old core.new volume result }
-    ensures counted { result ≡ Err halt.Disk → Rose (state core.old).disk.faults (state core.new).disk.faults }
-    ensures cause { IfErr result (MapFileHalts space id core.old.intervals (state core.old) (state core.new)) }
-    ensures evidence_seen { IfErr result (ShowsEvidence (state core.new).disk) }
-    ensures wrote { WroteIn (volume_page) (state core.old).disk (state core.old).slots (state core.new).disk
-        (state core.new).slots }
+    ensures fails { HaltsBy (MapFileHalts space id core.old.intervals (state core.old) (state core.new))
+        core.old core.new result }
+    ensures went { MovesOwn (state core.old) (state core.new) }
     ensures sees { IfOk result
         (λ reply.
         StillOnOr (λ ss file last. (reply ≡ answer.Done) × (file ≡ id) × IsLastFrom ss space page last) core.old
@@ -172,10 +156,6 @@ pub fn map<D: Disk, A: Allocator>(
         → Sees (state core.old) (kept core.old) core.old.intervals ss → HasMemory (state core.old) m
         → MapIs (state core.old).layout named m → AreOf named (kept_by (state core.old))
         → IfOk result (λ reply. reply ≡ answer.Done → ReachesOver ss space id page named) }
-    ensures right { SeesOn core.old → IfErr result NeverBlamesTables }
-    ensures came { BringsOwn (state core.old).slots (state core.new).slots }
-    ensures moves { Moves (state core.old) (state core.new) }
-    ensures layout { (state core.new).layout ≡ (state core.old).layout }
     ensures cost { CostsOther (state core.old).disk (state core.new).disk }
 {
     match may_map(core, space, id, page, writable) {

@@ -1,27 +1,22 @@
 //! Files that calls may name.
-ghost use Rattle.std.specs.Prelude.{◌≡◌, ◌≤◌, ◌+◌, true, List, Some, None, Ok, Err, IfOk, IfErr, IfSome, MatchResult};
+ghost use Rattle.std.specs.Prelude.{◌≡◌, ◌≤◌, ◌+◌, List, IfOk, IfErr, IfSome, MatchResult};
 ghost use Rattle.labelled_disk.specs.declared.evidence.Halt.TheVariants as halt;
-ghost use Rattle.labelled_disk.specs.Calls.{Rose};
-ghost use Rattle.flat_machine.specs.declared.call.Call.TheVariants as call;
 ghost use Rattle.flat_machine.specs.Machine.{Machine};
 ghost use Rattle.file_manager.specs.declared.volume.Volume.{Volume};
 ghost use Rattle.running_words.specs.Running.{Runs};
 ghost use Rattle.flat_machine.specs.Machine.{nameable};
 ghost use Rattle.space_tables.specs.Shows.{IsFirstWith, shows};
 ghost use Rattle.space_calls.specs.Naming.{IsNameable, IsSeen};
-ghost use Rattle.filer_kernel.specs.Evidence.{ShowsEvidence};
 ghost use Rattle.fault_core.specs.Core.{state};
 ghost use Rattle.space_calls.specs.Halts.{LookHalts, NamedHalts, SightHalts};
-ghost use Rattle.filer_kernel.specs.Fails.{Fails};
 ghost use Rattle.file_manager.specs.Attributes.{IsAttributesOf};
 ghost use Rattle.session_words.specs.Parts.{shapes_of};
-ghost use Rattle.fault_core.specs.NeverBlames.{NeverBlamesTables};
-ghost use Rattle.space_calls.specs.Sees.{SeesOn};
 ghost use Rattle.labelled_disk.specs.Sectors.{Sector};
 ghost use Rattle.file_map.specs.FileMap.{Triples, IsSize};
 ghost use Rattle.filer_kernel.specs.Triples.{AreOf, MapIs};
 ghost use Rattle.filer_kernel.specs.View.{FitsLayout, HasMemory, kept_by};
 ghost use Rattle.space_calls.specs.Calls.{Looks};
+ghost use Rattle.space_calls.specs.Outcomes.{HaltsBy};
 
 use crate::bare::shows_nothing;
 use fault_core::Core;
@@ -39,13 +34,9 @@ pub fn window_on<D: Disk, A: Allocator>(
 ) -> Result<Option<(u32, Shown)>, Halt>
     requires size { FitsLayout (state core.old) }
     ensures answer { (volume : Volume) (m : Machine) → Runs core.old volume m
-        → IfOk result (IsFirstWith (shows id writable_only) m.spaces) }
+        → MatchResult result (IsFirstWith (shows id writable_only) m.spaces) (λ e. e ≡ halt.Disk) }
     ensures looks { Looks core.old core.new }
-    ensures sound { (volume : Volume) (m : Machine) → Runs core.old volume m → IfErr result (λ e. e ≡ halt.Disk) }
-    ensures counted { result ≡ Err halt.Disk → Rose (state core.old).disk.faults (state core.new).disk.faults }
-    ensures cause { IfErr result (SightHalts core.old.intervals (state core.old) (state core.new)) }
-    ensures evidence_seen { IfErr result (ShowsEvidence (state core.new).disk) }
-    ensures right { SeesOn core.old → IfErr result NeverBlamesTables }
+    ensures fails { HaltsBy (SightHalts core.old.intervals (state core.old) (state core.new)) core.old core.new result }
     ensures cost { (state core.new).disk.transfers ≤ (state core.old).disk.transfers + 14532 }
 {
     match shows_nothing(core) {
@@ -59,13 +50,10 @@ pub fn window_on<D: Disk, A: Allocator>(
 // Whether no anonymous window shows the file: the calls on files then see it, if it is there.
 fn may_be_named<D: Disk, A: Allocator>(core: &mut Core<D, A>, id: FileId) -> Result<bool, Halt>
     requires size { FitsLayout (state core.old) }
-    ensures answer { (volume : Volume) (m : Machine) → Runs core.old volume m → IfOk result (IsSeen m id) }
+    ensures answer { (volume : Volume) (m : Machine) → Runs core.old volume m
+        → MatchResult result (IsSeen m id) (λ e. e ≡ halt.Disk) }
     ensures looks { Looks core.old core.new }
-    ensures sound { (volume : Volume) (m : Machine) → Runs core.old volume m → IfErr result (λ e. e ≡ halt.Disk) }
-    ensures counted { result ≡ Err halt.Disk → Rose (state core.old).disk.faults (state core.new).disk.faults }
-    ensures cause { IfErr result (SightHalts core.old.intervals (state core.old) (state core.new)) }
-    ensures evidence_seen { IfErr result (ShowsEvidence (state core.new).disk) }
-    ensures right { SeesOn core.old → IfErr result NeverBlamesTables }
+    ensures fails { HaltsBy (SightHalts core.old.intervals (state core.old) (state core.new)) core.old core.new result }
     ensures cost { (state core.new).disk.transfers ≤ (state core.old).disk.transfers + 14532 }
 {
     match window_on(core, id, false) {
@@ -76,7 +64,7 @@ fn may_be_named<D: Disk, A: Allocator>(core: &mut Core<D, A>, id: FileId) -> Res
 }
 
 // Size, type and marks of the file that has this identifier, if it is there.
-fn found_file<D: Disk, A: Allocator>(
+pub(crate) fn found_file<D: Disk, A: Allocator>(
     core: &mut Core<D, A>,
     id: FileId,
 ) -> Result<Option<Attributes>, Halt>
@@ -84,8 +72,7 @@ fn found_file<D: Disk, A: Allocator>(
     ensures answer { (volume : Volume) (m : Machine) → Runs core.old volume m
         → MatchResult result (IsAttributesOf (shapes_of m.files id)) (λ e. e ≡ halt.Disk) }
     ensures looks { Looks core.old core.new }
-    ensures fails { IfErr result
-        (Fails (LookHalts id (state core.old) (state core.new)) (state core.old) (state core.new)) }
+    ensures fails { HaltsBy (LookHalts id (state core.old) (state core.new)) core.old core.new result }
     ensures client { IfOk result (λ o. IfSome o (λ _. 16 ≤ id)) }
     ensures size { (m : List Sector) (named : Triples) → HasMemory (state core.old) m
         → MapIs (state core.old).layout named m → AreOf named (kept_by (state core.old))
@@ -103,17 +90,14 @@ pub fn named_file<D: Disk, A: Allocator>(
 ) -> Result<Option<Attributes>, Halt>
     requires size { FitsLayout (state core.old) }
     ensures answer { (volume : Volume) (m : Machine) → Runs core.old volume m
-        → IfOk result (IsNameable (nameable m id)) }
+        → MatchResult result (IsNameable (nameable m id)) (λ e. e ≡ halt.Disk) }
     ensures looks { Looks core.old core.new }
-    ensures sound { (volume : Volume) (m : Machine) → Runs core.old volume m → IfErr result (λ e. e ≡ halt.Disk) }
-    ensures counted { result ≡ Err halt.Disk → Rose (state core.old).disk.faults (state core.new).disk.faults }
-    ensures cause { IfErr result (NamedHalts id core.old.intervals (state core.old) (state core.new)) }
-    ensures evidence_seen { IfErr result (ShowsEvidence (state core.new).disk) }
+    ensures fails { HaltsBy (NamedHalts id core.old.intervals (state core.old) (state core.new))
+        core.old core.new result }
     ensures client { IfOk result (λ o. IfSome o (λ _. 16 ≤ id)) }
     ensures size { (m : List Sector) (named : Triples) → HasMemory (state core.old) m
         → MapIs (state core.old).layout named m → AreOf named (kept_by (state core.old))
         → IfOk result (λ o. IfSome o (λ found. IsSize named id found.pages)) }
-    ensures right { SeesOn core.old → IfErr result NeverBlamesTables }
     ensures cost { (state core.new).disk.transfers ≤ (state core.old).disk.transfers + 14561 }
 {
     let found = match found_file(core, id) {

@@ -1,7 +1,5 @@
 //! Bytes that are loaded and stored.
-ghost use Rattle.std.specs.Prelude.{◌≡◌, ◌≤◌, ◌+◌, ◌/◌, length, None, Err, IfErr, IsOk, OnOk, List};
-ghost use Rattle.labelled_disk.specs.declared.evidence.Halt.TheVariants as halt;
-ghost use Rattle.labelled_disk.specs.Calls.{Rose};
+ghost use Rattle.std.specs.Prelude.{◌≡◌, ◌≤◌, ◌+◌, ◌/◌, length, None, IsOk, OnOk, List};
 ghost use Rattle.flat_machine.specs.declared.call.Call.TheVariants as call;
 ghost use Rattle.flat_machine.specs.Machine.{Machine};
 ghost use Rattle.flat_machine.specs.Refusal.{refusal};
@@ -15,14 +13,12 @@ ghost use Rattle.fault_core.specs.Core.{kept, state};
 ghost use Rattle.fault_core.specs.Reach.{TouchHalts};
 ghost use Rattle.fault_core.specs.Unit.{IsReady};
 ghost use Rattle.running_words.specs.Stages.{client_or_own};
-ghost use Rattle.filer_kernel.specs.Evidence.{ShowsEvidence};
-ghost use Rattle.running_words.specs.Moving.{Moves};
-ghost use Rattle.fault_core.specs.NeverBlames.{NeverBlamesTables};
-ghost use Rattle.space_calls.specs.Sees.{SeesOn, StillOn};
-ghost use Rattle.fault_core.specs.Lack.{MissesPage, Sees, shown_units};
+ghost use Rattle.space_calls.specs.Sees.{StillOn};
+ghost use Rattle.fault_core.specs.Lack.{Sees, shown_units};
 ghost use Rattle.flat_machine.specs.declared.space.Space.{Space};
 ghost use Rattle.filer_kernel.specs.View.{FitsLayout};
 ghost use Rattle.space_calls.specs.Calls.{Answers};
+ghost use Rattle.space_calls.specs.Outcomes.{HaltsToBring, MovesOver};
 
 use fault_core::{Access, Core};
 use flat_machine::{Piece, Refusal, Reply};
@@ -40,22 +36,15 @@ pub fn load<D: Disk, A: Allocator>(
     requires few { count ≤ 64 }
     ensures answers { (volume : Volume) (m : Machine) → Runs core.old volume m
         → Answers m (call.Load address count) core.old core.new volume result }
-    ensures counted { result ≡ Err halt.Disk → Rose (state core.old).disk.faults (state core.new).disk.faults }
-    ensures wrote { WroteIn (volume_page) (state core.old).disk (state core.old).slots (state core.new).disk
-        (state core.new).slots }
+    ensures fails { HaltsToBring
+        (TouchHalts (BreaksFor (state core.old) core.old.intervals address count) (state core.old) (state core.new))
+        (λ ss. shown_units ss address count) core.old core.new result }
+    ensures went { MovesOver volume_page (state core.old) (state core.new) }
     ensures sees { OnOk result (StillOn core.old core.new) }
-    ensures right { SeesOn core.old → IfErr result NeverBlamesTables }
-    ensures moves { Moves (state core.old) (state core.new) }
-    ensures layout { (state core.new).layout ≡ (state core.old).layout }
     ensures cost { (state core.new).disk.transfers ≤ (state core.old).disk.transfers + 1680 }
     ensures ready { (volume : Volume) (m : Machine) → Runs core.old volume m
         → refusal m (call.Load address count) ≡ None
         → OnOk result (IsReady (kept core.new) (state core.new).slots (last_page address count)) }
-    ensures cause { IfErr result
-        (TouchHalts (BreaksFor (state core.old) core.old.intervals address count) (state core.old) (state core.new)) }
-    ensures missing { (ss : List Space) → Sees (state core.old) (kept core.old) core.old.intervals ss
-        → IfErr result (MissesPage (shown_units ss address count)) }
-    ensures evidence_seen { IfErr result (ShowsEvidence (state core.new).disk) }
     ensures idle { (volume : Volume) (m : Machine) → Runs core.old volume m
         → IsReady (kept core.old) (state core.old).slots (address / 512)
         → IsReady (kept core.old) (state core.old).slots (last_page address count)
@@ -82,26 +71,19 @@ pub fn store<D: Disk, A: Allocator>(
     requires few { length bytes.now ≤ 64 }
     ensures answers { (volume : Volume) (m : Machine) → Runs core.old volume m
         → Answers m (call.Store address bytes.now) core.old core.new volume result }
-    ensures counted { result ≡ Err halt.Disk → Rose (state core.old).disk.faults (state core.new).disk.faults }
-    ensures wrote { WroteIn (client_or_own) (state core.old).disk (state core.old).slots (state core.new).disk
-        (state core.new).slots }
+    ensures fails { HaltsToBring
+        (TouchHalts (BreaksFor (state core.old) core.old.intervals address (length bytes.now)) (state core.old)
+        (state core.new))
+        (λ ss. shown_units ss address (length bytes.now)) core.old core.new result }
+    ensures went { MovesOver client_or_own (state core.old) (state core.new) }
     ensures shown { (ss : List Space) → Sees (state core.old) (kept core.old) core.old.intervals ss
         → WroteIn (IsTouchedOrOwn ss address (length bytes.now)) (state core.old).disk (state core.old).slots
         (state core.new).disk (state core.new).slots }
     ensures sees { OnOk result (StillOn core.old core.new) }
-    ensures right { SeesOn core.old → IfErr result NeverBlamesTables }
-    ensures moves { Moves (state core.old) (state core.new) }
-    ensures layout { (state core.new).layout ≡ (state core.old).layout }
     ensures cost { (state core.new).disk.transfers ≤ (state core.old).disk.transfers + 1680 }
     ensures ready { (volume : Volume) (m : Machine) → Runs core.old volume m
         → refusal m (call.Store address bytes.now) ≡ None
         → OnOk result (IsReady (kept core.new) (state core.new).slots (last_page address (length bytes.now))) }
-    ensures cause { IfErr result
-        (TouchHalts (BreaksFor (state core.old) core.old.intervals address (length bytes.now)) (state core.old)
-        (state core.new)) }
-    ensures missing { (ss : List Space) → Sees (state core.old) (kept core.old) core.old.intervals ss
-        → IfErr result (MissesPage (shown_units ss address (length bytes.now))) }
-    ensures evidence_seen { IfErr result (ShowsEvidence (state core.new).disk) }
     ensures idle { (volume : Volume) (m : Machine) → Runs core.old volume m
         → IsReady (kept core.old) (state core.old).slots (address / 512)
         → IsReady (kept core.old) (state core.old).slots (last_page address (length bytes.now))

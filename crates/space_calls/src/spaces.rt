@@ -1,25 +1,16 @@
 //! Spaces that are made, removed and looked at.
-ghost use Rattle.std.specs.Prelude.{◌≡◌, Ok, Err, IfOk, IfErr, OnOk};
-ghost use Rattle.labelled_disk.specs.declared.evidence.Halt.TheVariants as halt;
-ghost use Rattle.labelled_disk.specs.Calls.{Rose};
+ghost use Rattle.std.specs.Prelude.{OnOk};
 ghost use Rattle.flat_machine.specs.declared.call.Call.TheVariants as call;
-ghost use Rattle.flat_machine.specs.declared.space.Space.{Space};
 ghost use Rattle.flat_machine.specs.Machine.{Machine};
-ghost use Rattle.session_words.specs.Volume.{volume_page};
 ghost use Rattle.file_manager.specs.declared.volume.Volume.{Volume};
 ghost use Rattle.running_words.specs.Bound.{CostsOther};
-ghost use Rattle.running_words.specs.Running.{Carried, Runs};
-ghost use Rattle.running_words.specs.Session.{WroteIn};
-ghost use Rattle.running_words.specs.Stages.{Passes};
-ghost use Rattle.filer_kernel.specs.Evidence.{ShowsEvidence};
+ghost use Rattle.running_words.specs.Running.{Runs};
 ghost use Rattle.fault_core.specs.Core.{state};
 ghost use Rattle.space_calls.specs.Halts.{ChangeHalts, MakeSpaceHalts, PlaceHalts, RemoveSpaceHalts};
-ghost use Rattle.running_words.specs.Moving.{Moves};
-ghost use Rattle.fault_core.specs.NeverBlames.{NeverBlamesTables};
-ghost use Rattle.fault_core.specs.Reach.{BringsOwn};
-ghost use Rattle.space_calls.specs.Sees.{SeesOn, StillOn};
+ghost use Rattle.space_calls.specs.Sees.{StillOn};
 ghost use Rattle.filer_kernel.specs.View.{FitsLayout};
 ghost use Rattle.space_calls.specs.Calls.{Answers};
+ghost use Rattle.space_calls.specs.Outcomes.{HaltsBy, MovesOwn};
 
 use crate::framing::frame_count;
 use fault_core::Core;
@@ -36,22 +27,13 @@ pub fn make_space<D: Disk, A: Allocator>(
     first: Option<u32>,
 ) -> Result<Reply, Halt>
     requires size { FitsLayout (state core.old) }
-    ensures carried { (volume : Volume) (m : Machine) → Runs core.old volume m
-        → IfOk result (Carried m (call.MakeSpace parent pages first) core.new volume) }
-    ensures sound { (volume : Volume) (m : Machine) → Runs core.old volume m → IfErr result (λ e. e ≡ halt.Disk) }
-    ensures passes { (volume : Volume) (m : Machine) → Runs core.old volume m
-        → Passes m (call.MakeSpace parent pages first) (state core.old).disk (state core.new).disk }
-    ensures counted { result ≡ Err halt.Disk → Rose (state core.old).disk.faults (state core.new).disk.faults }
-    ensures cause { IfErr result
-        (MakeSpaceHalts parent pages first core.old.intervals (state core.old) (state core.new)) }
-    ensures evidence_seen { IfErr result (ShowsEvidence (state core.new).disk) }
-    ensures wrote { WroteIn (volume_page) (state core.old).disk (state core.old).slots (state core.new).disk
-        (state core.new).slots }
+    ensures answers { (volume : Volume) (m : Machine) → Runs core.old volume m
+        → Answers m (call.MakeSpace parent pages first) core.old core.new volume result }
+    ensures fails { HaltsBy
+        (MakeSpaceHalts parent pages first core.old.intervals (state core.old) (state core.new))
+        core.old core.new result }
+    ensures went { MovesOwn (state core.old) (state core.new) }
     ensures sees { OnOk result (StillOn core.old core.new) }
-    ensures right { SeesOn core.old → IfErr result NeverBlamesTables }
-    ensures came { BringsOwn (state core.old).slots (state core.new).slots }
-    ensures moves { Moves (state core.old) (state core.new) }
-    ensures layout { (state core.new).layout ≡ (state core.old).layout }
     ensures cost { CostsOther (state core.old).disk (state core.new).disk }
 {
     let answer = match add(core, parent, pages, first) {
@@ -68,21 +50,12 @@ pub fn make_space<D: Disk, A: Allocator>(
 /// Removes a space that has no children and is not mapped.
 pub fn remove_space<D: Disk, A: Allocator>(core: &mut Core<D, A>, space: u32) -> Result<Reply, Halt>
     requires size { FitsLayout (state core.old) }
-    ensures carried { (volume : Volume) (m : Machine) → Runs core.old volume m
-        → IfOk result (Carried m (call.RemoveSpace space) core.new volume) }
-    ensures sound { (volume : Volume) (m : Machine) → Runs core.old volume m → IfErr result (λ e. e ≡ halt.Disk) }
-    ensures passes { (volume : Volume) (m : Machine) → Runs core.old volume m
-        → Passes m (call.RemoveSpace space) (state core.old).disk (state core.new).disk }
-    ensures counted { result ≡ Err halt.Disk → Rose (state core.old).disk.faults (state core.new).disk.faults }
-    ensures cause { IfErr result (RemoveSpaceHalts space core.old.intervals (state core.old) (state core.new)) }
-    ensures evidence_seen { IfErr result (ShowsEvidence (state core.new).disk) }
-    ensures wrote { WroteIn (volume_page) (state core.old).disk (state core.old).slots (state core.new).disk
-        (state core.new).slots }
+    ensures answers { (volume : Volume) (m : Machine) → Runs core.old volume m
+        → Answers m (call.RemoveSpace space) core.old core.new volume result }
+    ensures fails { HaltsBy (RemoveSpaceHalts space core.old.intervals (state core.old) (state core.new))
+        core.old core.new result }
+    ensures went { MovesOwn (state core.old) (state core.new) }
     ensures sees { OnOk result (StillOn core.old core.new) }
-    ensures right { SeesOn core.old → IfErr result NeverBlamesTables }
-    ensures came { BringsOwn (state core.old).slots (state core.new).slots }
-    ensures moves { Moves (state core.old) (state core.new) }
-    ensures layout { (state core.new).layout ≡ (state core.old).layout }
     ensures cost { CostsOther (state core.old).disk (state core.new).disk }
 {
     let answer = match remove(core, space) {
@@ -101,16 +74,10 @@ pub fn place<D: Disk, A: Allocator>(core: &mut Core<D, A>, page: u32) -> Result<
     requires size { FitsLayout (state core.old) }
     ensures answers { (volume : Volume) (m : Machine) → Runs core.old volume m
         → Answers m (call.Place page) core.old core.new volume result }
-    ensures counted { result ≡ Err halt.Disk → Rose (state core.old).disk.faults (state core.new).disk.faults }
-    ensures cause { IfErr result (PlaceHalts page core.old.intervals (state core.old) (state core.new)) }
-    ensures evidence_seen { IfErr result (ShowsEvidence (state core.new).disk) }
-    ensures wrote { WroteIn (volume_page) (state core.old).disk (state core.old).slots (state core.new).disk
-        (state core.new).slots }
+    ensures fails { HaltsBy (PlaceHalts page core.old.intervals (state core.old) (state core.new))
+        core.old core.new result }
+    ensures went { MovesOwn (state core.old) (state core.new) }
     ensures sees { OnOk result (StillOn core.old core.new) }
-    ensures right { SeesOn core.old → IfErr result NeverBlamesTables }
-    ensures came { BringsOwn (state core.old).slots (state core.new).slots }
-    ensures moves { Moves (state core.old) (state core.new) }
-    ensures layout { (state core.new).layout ≡ (state core.old).layout }
     ensures cost { CostsOther (state core.old).disk (state core.new).disk }
 {
     match innermost(core, page) {
@@ -131,21 +98,12 @@ pub fn set_units<D: Disk, A: Allocator>(
     pages: u32,
 ) -> Result<Reply, Halt>
     requires size { FitsLayout (state core.old) }
-    ensures carried { (volume : Volume) (m : Machine) → Runs core.old volume m
-        → IfOk result (Carried m (call.Units space pages) core.new volume) }
-    ensures sound { (volume : Volume) (m : Machine) → Runs core.old volume m → IfErr result (λ e. e ≡ halt.Disk) }
-    ensures passes { (volume : Volume) (m : Machine) → Runs core.old volume m
-        → Passes m (call.Units space pages) (state core.old).disk (state core.new).disk }
-    ensures counted { result ≡ Err halt.Disk → Rose (state core.old).disk.faults (state core.new).disk.faults }
-    ensures cause { IfErr result (ChangeHalts core.old.intervals (state core.old) (state core.new)) }
-    ensures evidence_seen { IfErr result (ShowsEvidence (state core.new).disk) }
-    ensures wrote { WroteIn (volume_page) (state core.old).disk (state core.old).slots (state core.new).disk
-        (state core.new).slots }
+    ensures answers { (volume : Volume) (m : Machine) → Runs core.old volume m
+        → Answers m (call.Units space pages) core.old core.new volume result }
+    ensures fails { HaltsBy (ChangeHalts core.old.intervals (state core.old) (state core.new))
+        core.old core.new result }
+    ensures went { MovesOwn (state core.old) (state core.new) }
     ensures sees { OnOk result (StillOn core.old core.new) }
-    ensures right { SeesOn core.old → IfErr result NeverBlamesTables }
-    ensures came { BringsOwn (state core.old).slots (state core.new).slots }
-    ensures moves { Moves (state core.old) (state core.new) }
-    ensures layout { (state core.new).layout ≡ (state core.old).layout }
     ensures cost { CostsOther (state core.old).disk (state core.new).disk }
 {
     let answer = match set_unit(core, space, pages) {

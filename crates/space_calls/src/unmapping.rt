@@ -1,7 +1,6 @@
 //! Windows that are taken away, or get another mode.
-ghost use Rattle.std.specs.Prelude.{◌≡◌, ◌≤◌, ◌+◌, ◌^◌, true, List, Some, None, Ok, Err, IfOk, IfErr, OnOk};
+ghost use Rattle.std.specs.Prelude.{◌≡◌, ◌≤◌, ◌+◌, ◌^◌, true, List, Some, None, IfOk, OnOk, MatchResult};
 ghost use Rattle.labelled_disk.specs.declared.evidence.Halt.TheVariants as halt;
-ghost use Rattle.labelled_disk.specs.Calls.{Rose};
 ghost use Rattle.flat_machine.specs.declared.call.Call.TheVariants as call;
 ghost use Rattle.flat_machine.specs.declared.space.Space.{Space};
 ghost use Rattle.flat_machine.specs.Machine.{Machine};
@@ -10,26 +9,21 @@ ghost use Rattle.session_words.specs.Volume.{volume_page};
 ghost use Rattle.file_manager.specs.declared.volume.Volume.{Volume};
 ghost use Rattle.running_words.specs.Bound.{CostsOther};
 ghost use Rattle.running_words.specs.Running.{Carried, Runs};
-ghost use Rattle.running_words.specs.Session.{WroteIn};
 ghost use Rattle.std.specs.Prelude.{[], false};
-ghost use Rattle.flat_machine.specs.Refusal.{first_of};
 ghost use Rattle.flat_machine.specs.Space.{space_at};
 ghost use Rattle.space_tables.specs.Shows.{window_of, IsShownAt};
-ghost use Rattle.projection_laws.specs.Tests.{window_row};
-ghost use Rattle.table_calls.specs.Answers.{IfGiven, TablesSay, Reveals};
+ghost use Rattle.table_calls.specs.Answers.{IfGiven, TablesSay};
 ghost use Rattle.flat_machine.specs.declared.call.Reply.TheVariants as reply;
 ghost use Rattle.space_calls.specs.Halts.{ProtectHalts, TakeWindowHalts, WritableHalts};
-ghost use Rattle.space_calls.specs.Unmapping.{IsGivenUp, IsRefused, IsTaken, Reshapes, ShowsIn};
-ghost use Rattle.filer_kernel.specs.Evidence.{ShowsEvidence};
+ghost use Rattle.space_calls.specs.Unmapping.{IsGivenUp, Reshapes, ShowsIn};
 ghost use Rattle.fault_core.specs.Core.{state, kept};
-ghost use Rattle.fault_core.specs.Reach.{BringsOwn, ReachHalts};
+ghost use Rattle.fault_core.specs.Reach.{ReachHalts};
 ghost use Rattle.space_calls.specs.Ranges.{BreaksPart};
-ghost use Rattle.running_words.specs.Moving.{Moves};
-ghost use Rattle.fault_core.specs.NeverBlames.{NeverBlamesTables};
-ghost use Rattle.space_calls.specs.Sees.{SeesOn, SeesFiles, IsShown, StillOn};
+ghost use Rattle.space_calls.specs.Sees.{SeesFiles, IsShown, StillOn};
 ghost use Rattle.fault_core.specs.Lack.{Sees};
 ghost use Rattle.filer_kernel.specs.View.{FitsLayout, MakesOnly};
-ghost use Rattle.space_calls.specs.Calls.{Answers};
+ghost use Rattle.space_calls.specs.Calls.{Answers, TakesWindow};
+ghost use Rattle.space_calls.specs.Outcomes.{HaltsBy, MakesOwn, MovesOwn};
 
 use crate::syncing::sync;
 use crate::windows::{change_window, evict_range, find_window, flush_range, shows_immutable};
@@ -45,23 +39,17 @@ pub fn take_window<D: Disk, A: Allocator>(
     space: u32,
 ) -> Result<Result<Shown, Refusal>, Halt>
     requires size { FitsLayout (state core.old) }
-    ensures taken { (volume : Volume) (m : Machine) → Runs core.old volume m
-        → IfOk result (Reveals (first_of (window_row m.spaces space)) (IsTaken m space (λ n. Runs core.new volume n))) }
-    ensures refused { (volume : Volume) (m : Machine) → Runs core.old volume m
-        → IfOk result (IsRefused (Runs core.new volume m)) }
+    ensures takes { (volume : Volume) (m : Machine) → Runs core.old volume m
+        → TakesWindow m space core.new volume result }
     ensures read { IfOk result (IfGiven (TablesSay (state core.old) (λ b. IsShownAt b space))) }
     ensures seen { (ss : List Space) → Sees (state core.old) (kept core.old) core.old.intervals ss
         → IfOk result (IfGiven (ShowsIn ss space)) }
-    ensures sound { (volume : Volume) (m : Machine) → Runs core.old volume m → IfErr result (λ e. e ≡ halt.Disk) }
-    ensures counted { result ≡ Err halt.Disk → Rose (state core.old).disk.faults (state core.new).disk.faults }
-    ensures cause { IfErr result (TakeWindowHalts space core.old.intervals (state core.old) (state core.new)) }
-    ensures evidence_seen { IfErr result (ShowsEvidence (state core.new).disk) }
+    ensures fails { HaltsBy (TakeWindowHalts space core.old.intervals (state core.old) (state core.new))
+        core.old core.new result }
     ensures sees { OnOk result (StillOn core.old core.new) }
-    ensures right { SeesOn core.old → IfErr result NeverBlamesTables }
     ensures reshapes { Reshapes (state core.old) (state core.new) }
     ensures makes { MakesOnly volume_page [] (state core.old) (state core.new) }
     ensures synced { IfOk result (IsGivenUp ((state core.new).disk.synced ≡ true)) }
-    ensures layout { (state core.new).layout ≡ (state core.old).layout }
     ensures cost { (state core.new).disk.transfers ≤ (state core.old).disk.transfers + 2 ^ 23 }
 {
     let (shown, first, pages) = match find_window(core, space) {
@@ -93,20 +81,13 @@ fn protect_writable<D: Disk, A: Allocator>(
     requires size { FitsLayout (state core.old) }
     ensures carried { (volume : Volume) (m : Machine) (s : Space) → Runs core.old volume m
         → space_at m.spaces space ≡ Some s → s.window ≡ Some (window_of shown)
-        → IfOk result (Carried m (call.Protect space true) core.new volume) }
-    ensures sound { (volume : Volume) (m : Machine) (s : Space) → Runs core.old volume m
-        → space_at m.spaces space ≡ Some s → s.window ≡ Some (window_of shown) → IfErr result (λ e. e ≡ halt.Disk) }
-    ensures counted { result ≡ Err halt.Disk → Rose (state core.old).disk.faults (state core.new).disk.faults }
-    ensures cause { IfErr result (WritableHalts shown.id core.old.intervals (state core.old) (state core.new)) }
-    ensures evidence_seen { IfErr result (ShowsEvidence (state core.new).disk) }
-    ensures makes { MakesOnly volume_page [] (state core.old) (state core.new) }
+        → MatchResult result (Carried m (call.Protect space true) core.new volume) (λ e. e ≡ halt.Disk) }
+    ensures fails { HaltsBy (WritableHalts shown.id core.old.intervals (state core.old) (state core.new))
+        core.old core.new result }
+    ensures went { MakesOwn (state core.old) (state core.new) }
     ensures sees { (ss : List Space) (s : Space) → Sees (state core.old) (kept core.old) core.old.intervals ss
         → space_at ss space ≡ Some s → s.window ≡ Some (window_of shown)
         → OnOk result (SeesFiles (IsShown ss) core.new) }
-    ensures right { SeesOn core.old → IfErr result NeverBlamesTables }
-    ensures came { BringsOwn (state core.old).slots (state core.new).slots }
-    ensures moves { Moves (state core.old) (state core.new) }
-    ensures layout { (state core.new).layout ≡ (state core.old).layout }
     ensures cost { (state core.new).disk.transfers ≤ (state core.old).disk.transfers + 57373 }
 {
     match shows_immutable(core, shown.id) {
@@ -136,27 +117,19 @@ fn protect_read_only<D: Disk, A: Allocator>(
     requires size { FitsLayout (state core.old) }
     ensures carried { (volume : Volume) (m : Machine) (s : Space) → Runs core.old volume m
         → space_at m.spaces space ≡ Some s → s.window ≡ Some (window_of shown) → first ≡ s.first → pages ≡ s.pages
-        → IfOk result (Carried m (call.Protect space false) core.new volume) }
-    ensures sound { (volume : Volume) (m : Machine) (s : Space) → Runs core.old volume m
-        → space_at m.spaces space ≡ Some s → s.window ≡ Some (window_of shown) → first ≡ s.first → pages ≡ s.pages
-        → IfErr result (λ e. e ≡ halt.Disk) }
+        → MatchResult result (Carried m (call.Protect space false) core.new volume) (λ e. e ≡ halt.Disk) }
     ensures synced { (volume : Volume) (m : Machine) (s : Space) → Runs core.old volume m
         → space_at m.spaces space ≡ Some s → s.window ≡ Some (window_of shown) → first ≡ s.first → pages ≡ s.pages
         → OnOk result ((state core.new).disk.synced ≡ true) }
     ensures settled { IfOk result (λ answer. answer ≡ reply.Done → (state core.new).disk.synced ≡ true) }
-    ensures counted { result ≡ Err halt.Disk → Rose (state core.old).disk.faults (state core.new).disk.faults }
-    ensures cause { IfErr result
+    ensures fails { HaltsBy
         (ReachHalts (BreaksPart (state core.old) core.old.intervals first (first + pages)) (state core.old)
-        (state core.new)) }
-    ensures evidence_seen { IfErr result (ShowsEvidence (state core.new).disk) }
-    ensures makes { MakesOnly volume_page [] (state core.old) (state core.new) }
+        (state core.new))
+        core.old core.new result }
+    ensures went { MakesOwn (state core.old) (state core.new) }
     ensures sees { (ss : List Space) (s : Space) → Sees (state core.old) (kept core.old) core.old.intervals ss
         → space_at ss space ≡ Some s → s.window ≡ Some (window_of shown)
         → OnOk result (SeesFiles (IsShown ss) core.new) }
-    ensures right { SeesOn core.old → IfErr result NeverBlamesTables }
-    ensures came { BringsOwn (state core.old).slots (state core.new).slots }
-    ensures moves { Moves (state core.old) (state core.new) }
-    ensures layout { (state core.new).layout ≡ (state core.old).layout }
     ensures cost { (state core.new).disk.transfers ≤ (state core.old).disk.transfers + 4452352 }
 {
     match flush_range(core, first, pages) {
@@ -187,16 +160,10 @@ pub fn protect<D: Disk, A: Allocator>(
     requires size { FitsLayout (state core.old) }
     ensures answers { (volume : Volume) (m : Machine) → Runs core.old volume m
         → Answers m (call.Protect space writable) core.old core.new volume result }
-    ensures counted { result ≡ Err halt.Disk → Rose (state core.old).disk.faults (state core.new).disk.faults }
-    ensures cause { IfErr result (ProtectHalts space writable core.old.intervals (state core.old) (state core.new)) }
-    ensures evidence_seen { IfErr result (ShowsEvidence (state core.new).disk) }
-    ensures wrote { WroteIn (volume_page) (state core.old).disk (state core.old).slots (state core.new).disk
-        (state core.new).slots }
+    ensures fails { HaltsBy (ProtectHalts space writable core.old.intervals (state core.old) (state core.new))
+        core.old core.new result }
+    ensures went { MovesOwn (state core.old) (state core.new) }
     ensures sees { OnOk result (StillOn core.old core.new) }
-    ensures right { SeesOn core.old → IfErr result NeverBlamesTables }
-    ensures came { BringsOwn (state core.old).slots (state core.new).slots }
-    ensures moves { Moves (state core.old) (state core.new) }
-    ensures layout { (state core.new).layout ≡ (state core.old).layout }
     ensures cost { CostsOther (state core.old).disk (state core.new).disk }
     ensures synced { (volume : Volume) (m : Machine) → Runs core.old volume m → writable ≡ false
         → refusal m (call.Protect space writable) ≡ None → OnOk result ((state core.new).disk.synced ≡ true) }

@@ -1,7 +1,6 @@
 //! The window of a space, the frames of what it shows, and its file.
-ghost use Rattle.std.specs.Prelude.{◌≡◌, ◌≤◌, ◌+◌, [], List, Option, Err, IfOk, IfErr, IfSome, OnOk, option_map};
+ghost use Rattle.std.specs.Prelude.{◌≡◌, ◌≤◌, ◌+◌, [], List, IfOk, IfErr, IfSome, OnOk, option_map, MatchResult};
 ghost use Rattle.labelled_disk.specs.declared.evidence.Halt.TheVariants as halt;
-ghost use Rattle.labelled_disk.specs.Calls.{Rose};
 ghost use Rattle.flat_machine.specs.declared.space.Space.{Space};
 ghost use Rattle.flat_machine.specs.Machine.{Machine};
 ghost use Rattle.session_words.specs.Volume.{volume_page};
@@ -22,20 +21,18 @@ ghost use Rattle.session_words.specs.Parts.{DirtyAreLoose};
 ghost use Rattle.fault_core.specs.Range.{AreClean, AreGone};
 ghost use Rattle.table_calls.specs.Answers.{IfGiven, IsDone, TablesSay, Reveals};
 ghost use Rattle.space_calls.specs.Unmapping.{IsWindowIn, Reshapes};
-ghost use Rattle.filer_kernel.specs.Evidence.{ShowsEvidence};
 ghost use Rattle.fault_core.specs.Core.{state, kept};
 ghost use Rattle.fault_core.specs.Kill.{BreaksWithin};
 ghost use Rattle.fault_core.specs.Reach.{ReachHalts};
 ghost use Rattle.space_calls.specs.Halts.{ChangeHalts, LookHalts, SlotHalts};
-ghost use Rattle.fault_core.specs.NeverBlames.{NeverBlamesTables};
-ghost use Rattle.space_calls.specs.Sees.{SeesOn};
 ghost use Rattle.fault_core.specs.Lack.{Sees};
 ghost use Rattle.filer_kernel.specs.View.{FitsLayout, MakesOnly};
 ghost use Rattle.space_calls.specs.Calls.{Looks};
+ghost use Rattle.space_calls.specs.Outcomes.{HaltsBy};
 
 use crate::framing::frame_count;
+use crate::naming::found_file;
 use fault_core::Core;
-use file_manager::attributes_of;
 use flat_machine::Refusal;
 use labelled_disk::{Disk, FileId, Halt};
 use space_tables::Shown;
@@ -49,18 +46,15 @@ pub(crate) fn find_window<D: Disk, A: Allocator>(
 ) -> Result<Result<(Shown, u32, u32), Refusal>, Halt>
     requires size { FitsLayout (state core.old) }
     ensures answer { (volume : Volume) (m : Machine) → Runs core.old volume m
-        → IfOk result (Reveals (first_of (window_row m.spaces space)) (IsWindowIn m.spaces space)) }
+        → MatchResult result (Reveals (first_of (window_row m.spaces space)) (IsWindowIn m.spaces space))
+        (λ e. e ≡ halt.Disk) }
     ensures read { IfOk result (IfGiven (λ found. TablesSay (state core.old) (λ b. IsShownAt b space) found.0)) }
     ensures range { IfOk result
         (IfGiven (λ found. TablesSay (state core.old) (λ b. IsRunAt b space) (found.1, found.2))) }
     ensures looks { Looks core.old core.new }
-    ensures sound { (volume : Volume) (m : Machine) → Runs core.old volume m → IfErr result (λ e. e ≡ halt.Disk) }
-    ensures counted { result ≡ Err halt.Disk → Rose (state core.old).disk.faults (state core.new).disk.faults }
-    ensures cause { IfErr result (SlotHalts space (state core.old) (state core.new)) }
-    ensures evidence_seen { IfErr result (ShowsEvidence (state core.new).disk) }
+    ensures fails { HaltsBy (SlotHalts space (state core.old) (state core.new)) core.old core.new result }
     ensures seen { (ss : List Space) → Sees (state core.old) (kept core.old) core.old.intervals ss
         → IfOk result (Reveals (first_of (window_row ss space)) (IsWindowIn ss space)) }
-    ensures right { SeesOn core.old → IfErr result NeverBlamesTables }
     ensures cost { (state core.new).disk.transfers ≤ (state core.old).disk.transfers + 56 }
 {
     let shows = match shown(core, space) {
@@ -83,15 +77,13 @@ pub(crate) fn evict_range<D: Disk, A: Allocator>(
 ) -> Result<(), Halt>
     requires size { FitsLayout (state core.old) }
     ensures rest { (volume : Volume) (m : Machine) → Runs core.old volume m
-        → OnOk result (AreGone m.spaces (state core.new).slots first (first + pages)) }
+        → MatchResult result (λ _. AreGone m.spaces (state core.new).slots first (first + pages))
+        (λ e. e ≡ halt.Disk) }
     ensures looks { Looks core.old core.new }
-    ensures sound { (volume : Volume) (m : Machine) → Runs core.old volume m → IfErr result (λ e. e ≡ halt.Disk) }
-    ensures counted { result ≡ Err halt.Disk → Rose (state core.old).disk.faults (state core.new).disk.faults }
-    ensures cause { IfErr result
+    ensures fails { HaltsBy
         (ReachHalts (BreaksWithin (state core.old) core.old.intervals first (first + pages)) (state core.old)
-        (state core.new)) }
-    ensures evidence_seen { IfErr result (ShowsEvidence (state core.new).disk) }
-    ensures right { SeesOn core.old → IfErr result NeverBlamesTables }
+        (state core.new))
+        core.old core.new result }
     ensures cost { (state core.new).disk.transfers ≤ (state core.old).disk.transfers + 4395008 }
 {
     let _frames = frame_count(core);
@@ -106,15 +98,13 @@ pub(crate) fn flush_range<D: Disk, A: Allocator>(
 ) -> Result<(), Halt>
     requires size { FitsLayout (state core.old) }
     ensures rest { (volume : Volume) (m : Machine) → Runs core.old volume m
-        → OnOk result (AreClean m.spaces (state core.new).slots first (first + pages)) }
+        → MatchResult result (λ _. AreClean m.spaces (state core.new).slots first (first + pages))
+        (λ e. e ≡ halt.Disk) }
     ensures looks { Looks core.old core.new }
-    ensures sound { (volume : Volume) (m : Machine) → Runs core.old volume m → IfErr result (λ e. e ≡ halt.Disk) }
-    ensures counted { result ≡ Err halt.Disk → Rose (state core.old).disk.faults (state core.new).disk.faults }
-    ensures cause { IfErr result
+    ensures fails { HaltsBy
         (ReachHalts (BreaksWithin (state core.old) core.old.intervals first (first + pages)) (state core.old)
-        (state core.new)) }
-    ensures evidence_seen { IfErr result (ShowsEvidence (state core.new).disk) }
-    ensures right { SeesOn core.old → IfErr result NeverBlamesTables }
+        (state core.new))
+        core.old core.new result }
     ensures cost { (state core.new).disk.transfers ≤ (state core.old).disk.transfers + 4395008 }
 {
     let _frames = frame_count(core);
@@ -139,17 +129,14 @@ pub(crate) fn change_window<D: Disk, A: Allocator>(
         (record m { spaces = with_window space (option_map window_of shown) m.spaces; unforced = unforced }))) }
     ensures sound { (volume : Volume) (m : Machine) (x : Space) → Runs core.old volume m → MayHaveWindow m.spaces x
         → x.handle ≡ space → IfSome shown (λ w. WindowFits x.pages (window_of w)) → IfErr result (λ e. e ≡ halt.Disk) }
-    ensures counted { result ≡ Err halt.Disk → Rose (state core.old).disk.faults (state core.new).disk.faults }
-    ensures cause { IfErr result (ChangeHalts core.old.intervals (state core.old) (state core.new)) }
-    ensures evidence_seen { IfErr result (ShowsEvidence (state core.new).disk) }
+    ensures fails { HaltsBy (ChangeHalts core.old.intervals (state core.old) (state core.new))
+        core.old core.new result }
     ensures sees { (ss : List Space) (x : Space) → Sees (state core.old) (kept core.old) core.old.intervals ss
         → MayHaveWindow ss x → x.handle ≡ space → IfSome shown (λ w. WindowFits x.pages (window_of w))
         → OnOk result
         (Sees (state core.new) (kept core.new) core.new.intervals (with_window space (option_map window_of shown) ss)) }
-    ensures right { SeesOn core.old → IfErr result NeverBlamesTables }
     ensures reshapes { Reshapes (state core.old) (state core.new) }
     ensures makes { MakesOnly volume_page [] (state core.old) (state core.new) }
-    ensures layout { (state core.new).layout ≡ (state core.old).layout }
     ensures cost { (state core.new).disk.transfers ≤ (state core.old).disk.transfers + 57344 }
 {
     let answer = match set_window(core, space, shown) {
@@ -167,16 +154,12 @@ pub(crate) fn shows_immutable<D: Disk, A: Allocator>(
 ) -> Result<bool, Halt>
     requires size { FitsLayout (state core.old) }
     ensures answer { (volume : Volume) (m : Machine) → Runs core.old volume m
-        → IfOk result (λ is. is_immutable m id ≡ then_some is why.Immutable) }
+        → MatchResult result (λ is. is_immutable m id ≡ then_some is why.Immutable) (λ e. e ≡ halt.Disk) }
     ensures looks { Looks core.old core.new }
-    ensures sound { (volume : Volume) (m : Machine) → Runs core.old volume m → IfErr result (λ e. e ≡ halt.Disk) }
-    ensures counted { result ≡ Err halt.Disk → Rose (state core.old).disk.faults (state core.new).disk.faults }
-    ensures cause { IfErr result (LookHalts id (state core.old) (state core.new)) }
-    ensures evidence_seen { IfErr result (ShowsEvidence (state core.new).disk) }
-    ensures right { SeesOn core.old → IfErr result NeverBlamesTables }
+    ensures fails { HaltsBy (LookHalts id (state core.old) (state core.new)) core.old core.new result }
     ensures cost { (state core.new).disk.transfers ≤ (state core.old).disk.transfers + 29 }
 {
-    match attributes_of(&mut core.filer, id) {
+    match found_file(core, id) {
         Ok(Some(found)) => Ok(found.immutable),
         Ok(None) => Ok(false),
         Err(halt) => Err(halt),

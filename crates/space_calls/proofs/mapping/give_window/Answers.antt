@@ -1,19 +1,16 @@
-use Rattle.std.proofs.Common.{◌≡◌, ◌⊎◌, ℕ, Some, refl, subst}
+use Rattle.std.proofs.Common.{Err, ◌≡◌, ◌⊎◌, ℕ, Some, refl, subst}
 use Rattle.flat_machine.specs.Space.{space_at}
 use Rattle.swapper_kernel.specs.Goes.{Pages}
 use Rattle.space_calls.specs.Mapping.{IsLastFrom}
 use Rattle.space_calls.proofs.RunLemmas.{knows}
 use Rattle.space_calls.proofs.TableAnswers.{not_refused}
 use Rattle.space_calls.proofs.WindowLemmas.{window_given}
-use Rattle.fault_core.specs.Core.{state}
-use Rattle.filer_kernel.specs.EvidenceLaws.{fits}
-use Rattle.fault_core.proofs.EvidenceLemmas.{shows_evidence}
-use Rattle.space_calls.proofs.MovesLemmas.{moves_tables}
 use Rattle.space_calls.specs.Sees.{IsShown, SeesFiles}
 use Rattle.space_calls.proofs.OnLemmas.{window_given_on}
 use Rattle.space_calls.proofs.SeesLemmas.{are_seen, set_so}
 use Rattle.space_calls.proofs.mapping.give_window.Goals as goal
-use Rattle.filer_kernel.specs.View.{accepted, disk_of, swapper_of}
+use Rattle.space_calls.proofs.OutcomeLemmas.{halts_reached, made_tables}
+use Rattle.filer_kernel.specs.View.{accepted, disk_of}
 
 pub returns-in-Err-clause-sound : goal.returns-in-Err-clause-sound
 returns-in-Err-clause-sound g c = λ volume m x r may named bare fits.
@@ -32,22 +29,6 @@ returns-in-Err-answer-clause-given g c = λ volume m x r may named bare fits is.
     let known = knows c.args.core.now (accepted c.args.core.now.filer) c.requires.size volume m r in
     absurd (not_refused _ c.in-Ok.answer c.in-Err-answer.word c.in-Err-answer.is (c.in-Ok.ensures.done _ _ m.spaces x known may named fits))
 
--- ---- What its evidence says is so.
-
-pub returns-in-Err-clause-evidence_seen : goal.returns-in-Err-clause-evidence_seen
-returns-in-Err-clause-evidence_seen g c = shows_evidence _ (state c.args.core.now) (state c.set_window.new.core) (fits (swapper_of c.args.core.now.filer) c.requires.size) c.set_window.ensures.retabled.beside.goes.makes c.in-Err.halt c.in-Err.ensures.cause
-
--- ---- No label was written.
-
-pub returns-in-Err-clause-moves : goal.returns-in-Err-clause-moves
-returns-in-Err-clause-moves g c = moves_tables (state c.args.core.now) (state c.set_window.new.core) c.set_window.ensures.retabled.beside
-
-pub returns-in-Ok-answer-clause-moves : goal.returns-in-Ok-answer-clause-moves
-returns-in-Ok-answer-clause-moves g c = rw c.frame_count-frames.ensures.same (moves_tables (state c.args.core.now) (state c.set_window.new.core) c.set_window.ensures.retabled.beside)
-
-pub returns-in-Err-answer-clause-moves : goal.returns-in-Err-answer-clause-moves
-returns-in-Err-answer-clause-moves g c = rw c.frame_count-frames.ensures.same (moves_tables (state c.args.core.now) (state c.set_window.new.core) c.set_window.ensures.retabled.beside)
-
 -- ---- The tables are revealed.
 
 pub returns-in-Ok-answer-clause-sees : goal.returns-in-Ok-answer-clause-sees
@@ -59,16 +40,18 @@ returns-in-Ok-answer-clause-sees g c = λ ss x s may named fits.
 pub returns-in-Err-answer-clause-sees : goal.returns-in-Err-answer-clause-sees
 returns-in-Err-answer-clause-sees g c = λ ss x s may named fits. absurd (not_refused _ c.in-Ok.answer c.in-Err-answer.word c.in-Err-answer.is (c.in-Ok.ensures.sees ss x s may named fits))
 
-pub returns-in-Err-clause-right : goal.returns-in-Err-clause-right
-returns-in-Err-clause-right g c = λ s. c.in-Err.ensures.right s.0 s.1
+-- ---- Why it failed.
 
--- ---- Which pages came.
+pub returns-in-Err-clause-fails : goal.returns-in-Err-clause-fails
+returns-in-Err-clause-fails g c = halts_reached c.requires.size c.set_window.ensures.retabled.beside.goes.makes (Err c.in-Err.halt) c.in-Err.ensures.cause c.in-Err.ensures.right
 
-pub returns-in-Err-clause-came : goal.returns-in-Err-clause-came
-returns-in-Err-clause-came g c = c.set_window.ensures.retabled.came
+-- ---- What was written.
 
-pub returns-in-Ok-answer-clause-came : goal.returns-in-Ok-answer-clause-came
-returns-in-Ok-answer-clause-came g c = rw c.frame_count-frames.ensures.same c.set_window.ensures.retabled.came
+pub returns-in-Err-clause-went : goal.returns-in-Err-clause-went
+returns-in-Err-clause-went g c = made_tables c.set_window.ensures.retabled
 
-pub returns-in-Err-answer-clause-came : goal.returns-in-Err-answer-clause-came
-returns-in-Err-answer-clause-came g c = rw c.frame_count-frames.ensures.same c.set_window.ensures.retabled.came
+pub returns-in-Ok-answer-clause-went : goal.returns-in-Ok-answer-clause-went
+returns-in-Ok-answer-clause-went g c = rw c.frame_count-frames.ensures.same (made_tables c.set_window.ensures.retabled)
+
+pub returns-in-Err-answer-clause-went : goal.returns-in-Err-answer-clause-went
+returns-in-Err-answer-clause-went g c = rw c.frame_count-frames.ensures.same (made_tables c.set_window.ensures.retabled)

@@ -1,16 +1,12 @@
-use Rattle.std.proofs.Common.{◌≡◌, inl, inr, ◌+◌, ◌≤◌, ◌&&◌, ℕ, Option, false, refl, ap, subst, arith, rules}
+use Rattle.std.proofs.Common.{◌≡◌, inl, inr, ◌+◌, ◌≤◌, ◌&&◌, ℕ, Option, false, refl, ap, subst, arith}
 use Rattle.file_manager.specs.declared.attributes.Attributes.{Attributes}
 use Rattle.flat_machine.specs.declared.space.Space.{Space}
 use Rattle.flat_machine.specs.Machine.{nameable}
-use Rattle.swapper_kernel.specs.GoesLaws.{makes_then}
 use Rattle.space_calls.specs.Naming.{IsNameable}
 use Rattle.space_calls.proofs.MapLemmas.{both_not, file_immutable, no_such_file, path_taken, root_given, space_missing, window_allowed, window_long}
 use Rattle.space_calls.proofs.RunLemmas.{asked_makes, asked_runs, knows, size_kept}
 use Rattle.space_calls.proofs.TableAnswers.{bounds_refused, bounds_revealed, map_refused, map_revealed}
 use Rattle.fault_core.specs.Core.{state}
-use Rattle.filer_kernel.specs.EvidenceLaws.{fits}
-use Rattle.fault_core.proofs.EvidenceLemmas.{shows_evidence}
-use Rattle.fault_core.proofs.ReachLemmas.{reaches_then}
 use Rattle.space_calls.proofs.HaltLemmas.{given_map, named_map, path_change}
 use Rattle.std.specs.Prelude.{IfSome}
 use Rattle.space_calls.proofs.SeesLemmas.{are_seen, free_may, handle_so}
@@ -18,8 +14,9 @@ use Rattle.file_map.specs.FileMap.{IsSize}
 use Rattle.space_calls.proofs.SizeLemmas.{found_later, reaches_over}
 use Rattle.space_calls.proofs.mapping.may_map.Goals as goal
 use Rattle.space_calls.proofs.mapping.may_map.Goals.{else-writable-via-then-writable+else-found, else-writable-via-else-writable}
-use Rattle.filer_kernel.specs.View.{accepted, swapper_of}
-use Rattle.space_calls.proofs.LookLemmas.{looks_asked, looks_asked_then, looks_then}
+use Rattle.filer_kernel.specs.View.{accepted}
+use Rattle.space_calls.proofs.OutcomeLemmas.{halts_after, halts_at, halts_wider}
+use Rattle.space_calls.proofs.LookLemmas.{looks_asked, looks_asked_then, looks_fits, looks_then}
 
 -- ---- The space.
 
@@ -37,8 +34,8 @@ returns-in-Err-clause-looks g c = looks_asked c.requires.size c.bounds.ensures.a
 pub returns-then-space-eq0-clause-looks : goal.returns-then-space-eq0-clause-looks
 returns-then-space-eq0-clause-looks g c = looks_asked c.requires.size c.bounds.ensures.asked c.bounds.ensures.sees
 
-pub returns-in-Err-clause-sound : goal.returns-in-Err-clause-sound
-returns-in-Err-clause-sound g c = λ volume m r.
+pub returns-in-Err-clause-answer : goal.returns-in-Err-clause-answer
+returns-in-Err-clause-answer g c = λ volume m r.
     let old = c.args.core.now in
     c.in-Err.ensures.sound _ _ m.spaces (knows old (accepted old.filer) c.requires.size volume m r)
 
@@ -64,11 +61,11 @@ returns-in-Ok-None-clause-looks g c = looks_then (looks_asked c.requires.size c.
 pub returns-in-Err-named_file-clause-looks : goal.returns-in-Err-named_file-clause-looks
 returns-in-Err-named_file-clause-looks g c = looks_then (looks_asked c.requires.size c.bounds.ensures.asked c.bounds.ensures.sees) c.named_file.ensures.looks
 
-pub returns-in-Err-named_file-clause-sound : goal.returns-in-Err-named_file-clause-sound
-returns-in-Err-named_file-clause-sound g c = λ volume m r.
+pub returns-in-Err-named_file-clause-answer : goal.returns-in-Err-named_file-clause-answer
+returns-in-Err-named_file-clause-answer g c = λ volume m r.
     let old = c.args.core.now in
     let r1 = asked_runs old (accepted old.filer) c.requires.size c.bounds.new.core volume m c.bounds.ensures.asked r in
-    c.in-Err-named_file.ensures.sound volume m r1
+    c.in-Err-named_file.ensures.answer volume m r1
 
 -- ---- The path.
 
@@ -85,8 +82,8 @@ returns-in-Ok-Err-can_map-clause-answer g c = λ volume m r.
     let taken = map_refused m.spaces c.args.space c.in-Ok-Err-can_map.field-0 c.in-Ok-Err-can_map.word c.in-Ok-Err-can_map.field-0-is (c.in-Ok-Err-can_map.ensures.answer _ _ m.spaces (knows named (accepted named.filer) size2 volume m r2)) in
     (path_taken m c.args.space c.args.id c.args.page c.args.writable there c.if-space-eq0.false c.in-Ok-Some.found revealed c.in-Ok-Err-can_map.word taken, tt)
 
-pub returns-in-Err-can_map-clause-sound : goal.returns-in-Err-can_map-clause-sound
-returns-in-Err-can_map-clause-sound g c = λ volume m r.
+pub returns-in-Err-can_map-clause-answer : goal.returns-in-Err-can_map-clause-answer
+returns-in-Err-can_map-clause-answer g c = λ volume m r.
     let old = c.args.core.now in
     let r1 = asked_runs old (accepted old.filer) c.requires.size c.bounds.new.core volume m c.bounds.ensures.asked r in
     let r2 = c.named_file.ensures.looks.runs volume m r1 in
@@ -177,45 +174,31 @@ returns-clause-answer g c = λ volume m r.
     let mutable : c.args.writable && c.in-Ok-Some.found.immutable ≡ false = elim c.else-writable.branch [ else-writable-via-then-writable+else-found w ↦ both_not c.args.writable c.in-Ok-Some.found.immutable (inr w.if-found.false) | else-writable-via-else-writable w ↦ both_not c.args.writable c.in-Ok-Some.found.immutable (inl w.if-writable.false) ] in
     (window_allowed m c.args.space c.args.id c.args.page c.args.writable there c.if-space-eq0.false c.in-Ok-Some.found revealed free.0 s free.1.1 fits mutable, (s, free.1.1, omega (arith, fits, count, small)))
 
--- ---- What its evidence says is so.
-
-pub returns-in-Err-clause-evidence_seen : goal.returns-in-Err-clause-evidence_seen
-returns-in-Err-clause-evidence_seen g c = shows_evidence _ (state c.args.core.now) (state c.bounds.new.core) (fits (swapper_of c.args.core.now.filer) c.requires.size) c.bounds.ensures.asked.reaches.goes.makes c.in-Err.halt c.in-Err.ensures.cause
-
-pub returns-in-Err-can_map-clause-evidence_seen : goal.returns-in-Err-can_map-clause-evidence_seen
-returns-in-Err-can_map-clause-evidence_seen g c = shows_evidence _ (state c.named_file.new.core) (state c.can_map.new.core) (fits (swapper_of c.named_file.new.core.filer) (search rules)) c.can_map.ensures.asked.reaches.goes.makes c.in-Err-can_map.halt c.in-Err-can_map.ensures.cause
-
 -- ---- Why it failed.
 
-pub returns-in-Err-clause-cause : goal.returns-in-Err-clause-cause
-returns-in-Err-clause-cause g c = inl c.in-Err.ensures.cause
+pub returns-in-Err-clause-fails : goal.returns-in-Err-clause-fails
+returns-in-Err-clause-fails g c =
+    let fails = halts_at c.requires.size c.bounds.ensures.asked.reaches.goes.makes c.in-Err.halt c.in-Err.ensures.cause c.in-Err.ensures.right in
+    halts_wider fails (inl c.in-Err.ensures.cause)
 
-pub returns-in-Err-named_file-clause-cause : goal.returns-in-Err-named_file-clause-cause
-returns-in-Err-named_file-clause-cause g c =
+pub returns-in-Err-named_file-clause-fails : goal.returns-in-Err-named_file-clause-fails
+returns-in-Err-named_file-clause-fails g c =
+    let old = c.args.core.now in
     let asked = c.bounds.ensures.asked in
-    named_map (state c.args.core.now) (state c.bounds.new.core) (state c.named_file.new.core) c.args.space c.args.id c.args.core.now.intervals asked.reaches c.bounds.new.core.intervals asked.intervals c.in-Err-named_file.halt c.in-Err-named_file.ensures.cause
+    halts_after (looks_asked c.requires.size asked c.bounds.ensures.sees) c.in-Err-named_file.ensures.fails
+    (named_map (state old) (state c.bounds.new.core) (state c.named_file.new.core) c.args.space c.args.id old.intervals asked.reaches c.bounds.new.core.intervals asked.intervals c.in-Err-named_file.halt c.in-Err-named_file.ensures.fails.cause)
 
-pub returns-in-Err-can_map-clause-cause : goal.returns-in-Err-can_map-clause-cause
-returns-in-Err-can_map-clause-cause g c =
+pub returns-in-Err-can_map-clause-fails : goal.returns-in-Err-can_map-clause-fails
+returns-in-Err-can_map-clause-fails g c =
     let v = state c.args.core.now in
     let x = c.named_file.new.core in
     let w = state c.can_map.new.core in
     let count = c.args.core.now.intervals in
-    let found = reaches_then v (state c.bounds.new.core) (accepted c.args.core.now.filer) c.bounds.ensures.asked.reaches (state x) c.named_file.ensures.looks.reaches in
-    given_map v (state x) w c.args.space c.args.id count found count refl c.in-Err-can_map.halt (path_change (state x) (accepted x.filer) count w c.in-Err-can_map.halt c.in-Err-can_map.ensures.cause)
-
--- ---- What the tests leave.
+    let looks = looks_then (looks_asked c.requires.size c.bounds.ensures.asked c.bounds.ensures.sees) c.named_file.ensures.looks in
+    let fails = halts_at (looks_fits looks c.requires.size) c.can_map.ensures.asked.reaches.goes.makes c.in-Err-can_map.halt c.in-Err-can_map.ensures.cause c.in-Err-can_map.ensures.right in
+    halts_after looks fails (given_map v (state x) w c.args.space c.args.id count looks.reaches count refl c.in-Err-can_map.halt (path_change (state x) (accepted x.filer) count w c.in-Err-can_map.halt c.in-Err-can_map.ensures.cause))
 
 -- ---- The tables are revealed.
-
-pub returns-in-Err-clause-right : goal.returns-in-Err-clause-right
-returns-in-Err-clause-right g c = λ s. c.in-Err.ensures.right s.0 s.1
-
-pub returns-in-Err-named_file-clause-right : goal.returns-in-Err-named_file-clause-right
-returns-in-Err-named_file-clause-right g c = λ s. c.in-Err-named_file.ensures.right (s.0, c.bounds.ensures.sees s.0 s.1)
-
-pub returns-in-Err-can_map-clause-right : goal.returns-in-Err-can_map-clause-right
-returns-in-Err-can_map-clause-right g c = λ s. c.in-Err-can_map.ensures.right s.0 (c.named_file.ensures.looks.still s.0 (c.bounds.ensures.sees s.0 s.1))
 
 pub returns-clause-seen : goal.returns-clause-seen
 returns-clause-seen g c = λ ss s.

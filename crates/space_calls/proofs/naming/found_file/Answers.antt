@@ -1,11 +1,15 @@
-use Rattle.std.specs.Prelude.{IfOk, IfSome}
-use Rattle.std.proofs.Common.{refl, rules}
-use Rattle.std.proofs.lemmas.Result.{IfOk-weaker}
+use Rattle.std.specs.Prelude.{IfSome}
+use Rattle.std.proofs.Common.{refl}
+use Rattle.std.proofs.lemmas.Result.{IfErr-weaker, IfOk-weaker}
 use Rattle.session_words.specs.Parts.{shapes_of}
 use Rattle.space_calls.proofs.RunLemmas.{books_of, looked_runs}
 use Rattle.fault_core.specs.Core.{state}
+use Rattle.filer_kernel.specs.FailsLaws.{cause_in}
+use Rattle.fault_core.specs.NeverBlames.{NeverBlamesTables}
+use Rattle.space_calls.specs.Halts.{LookHalts}
 use Rattle.space_calls.proofs.HaltLemmas.{look_reaches}
-use Rattle.space_calls.proofs.SeesLemmas.{client_so, reached_sees}
+use Rattle.space_calls.proofs.OutcomeLemmas.{halts_of_fails}
+use Rattle.space_calls.proofs.SeesLemmas.{client_so, look_never_blames, reached_sees}
 use Rattle.file_map.specs.FileMap.{IsSize}
 use Rattle.space_calls.proofs.naming.found_file.Goals as goal
 
@@ -28,7 +32,11 @@ returns-clause-looks g c =
     }
 
 pub returns-clause-fails : goal.returns-clause-fails
-returns-clause-fails g c = c.attributes_of.ensures.fails
+returns-clause-fails g c =
+    let v = state c.args.core.now in
+    let w = state (record c.args.core.now { filer = c.attributes_of.new.filer }) in
+    let fails = c.attributes_of.ensures.fails in
+    halts_of_fails c.attributes_of.result fails (λ s. IfErr-weaker c.attributes_of.result (LookHalts c.args.id v w) NeverBlamesTables (look_never_blames v w c.args.id) (cause_in (LookHalts c.args.id v w) v w c.attributes_of.result fails))
 
 pub returns-clause-client : goal.returns-clause-client
 returns-clause-client g c = client_so c.args.id c.attributes_of.result (λ low. (c.attributes_of.ensures.reserved low).0)

@@ -1,90 +1,84 @@
-use Rattle.std.proofs.Common.{sym, ap, subst, ℕ, refl, ◌≡◌, ◌+◌, List, arith, rules}
+use Rattle.std.proofs.Common.{sym, ap, subst, ℕ, refl, ◌≡◌, ◌+◌, List, arith}
 use Rattle.flat_machine.specs.declared.call.Call.TheVariants as call
 use Rattle.flat_machine.specs.declared.call.Reply.TheVariants as reply
-use Rattle.flat_machine.specs.Machine.{Machine}
-use Rattle.swapper_kernel.specs.GoesLaws.{makes_then}
-use Rattle.fault_core.specs.Core.{state, kept}
-use Rattle.running_words.specs.Running.{Runs}
-use Rattle.running_words.proofs.RunningLemmas.{running_laws}
-use Rattle.space_calls.proofs.CarryLemmas.{allowed_done, allowed_refused, next_refused}
-use Rattle.space_calls.proofs.RunLemmas.{reached_makes}
-use Rattle.space_calls.proofs.CameLemmas.{came_own, knows, give_makes, still_runs, still_reveals, whole_after, whole_of, wrote_so}
-use Rattle.space_tables.specs.Shows.{IsRunAt}
-use Rattle.table_calls.specs.Answers.{TablesSay}
-use Rattle.space_calls.proofs.RangeLemmas.{asked_halt, given_so, within_halt, found_run, found_word, never_refused, of_space, of_run}
-use Rattle.space_calls.proofs.RefusedCalls.{kill_refused, kill_there}
-use Rattle.space_calls.proofs.MovedLemmas.{kill_runs}
-use Rattle.fault_core.specs.Kill.{AreWritableSo, is_absent}
-use Rattle.filer_kernel.specs.EvidenceLaws.{fits}
-use Rattle.fault_core.proofs.EvidenceLemmas.{shows_evidence}
+use Rattle.filer_kernel.specs.View.{accepted, disk_of}
+use Rattle.fault_core.specs.Core.{kept, state}
 use Rattle.fault_core.specs.Kept.{AreFound}
+use Rattle.fault_core.specs.Kill.{AreWritableSo, is_absent}
+use Rattle.running_words.proofs.RunningLemmas.{running_laws}
+use Rattle.running_words.specs.MovingLaws.{moves_of_touches}
+use Rattle.space_tables.specs.Shows.{IsRunAt}
 use Rattle.swap_units.specs.declared.interval.Interval.{Interval}
-use Rattle.running_words.specs.MovingLaws.{moves_of_reaches, moves_of_touches}
-use Rattle.space_calls.proofs.MovesLemmas.{moves_after}
 use Rattle.swapper_kernel.specs.Goes.{no_page}
+use Rattle.table_calls.specs.Answers.{TablesSay}
+use Rattle.space_calls.specs.Calls.{Looks}
 use Rattle.space_calls.specs.FilesLaws.{shown_here}
-use Rattle.swapper_kernel.specs.HaltLaws.{brings_then}
+use Rattle.space_calls.specs.Outcomes.{MakesOwn}
+use Rattle.space_calls.proofs.CameLemmas.{came_own, give_makes, knows, still_runs, whole_after, whole_of}
+use Rattle.space_calls.proofs.CarryLemmas.{allowed_done}
+use Rattle.space_calls.proofs.LookLemmas.{looked_fault, looked_word, looks_asked, looks_fits}
+use Rattle.space_calls.proofs.MovedLemmas.{kill_runs}
+use Rattle.space_calls.proofs.OutcomeLemmas.{halts_after, halts_at, halts_wider, made_reached, made_then, on_looked, own_looked, own_made}
+use Rattle.space_calls.proofs.RangeLemmas.{asked_halt, found_run, found_word, given_so, never_refused, of_run, of_space, within_halt}
+use Rattle.space_calls.proofs.RefusedCalls.{kill_refused, kill_there}
+use Rattle.space_calls.proofs.RunLemmas.{knows as knows_of, quiet_passes}
+use Rattle.space_calls.proofs.range.kill.Given as given
 use Rattle.space_calls.proofs.range.kill.Goals as goal
-use Rattle.filer_kernel.specs.View.{accepted, disk_of, swapper_of}
+use Rattle.space_calls.proofs.range.kill.Goals.{After-kill, After-range_of}
+
+asked : (g : given.Over) (c : After-range_of g) → Looks c.args.core.now c.range_of.new.core
+asked g c = looks_asked c.requires.size c.range_of.ensures.asked c.range_of.ensures.still
+
+killed : (g : given.Over) (c : After-kill g) → MakesOwn (state c.args.core.now) (state c.kill.new.self)
+killed g c =
+    let touches = c.kill.ensures.brings.touches in
+    let moves = moves_of_touches (state c.range_of.new.core) (state c.kill.new.self) no_page touches in
+    made_then (accepted c.args.core.now.filer) (made_reached c.range_of.ensures.asked.reaches c.range_of.ensures.asked.came) (record { makes = give_makes touches; moves = moves; came = c.kill.ensures.brings.came })
 
 -- ---- There is no such space.
 
 pub returns-in-Ok-Err-clause-answers : goal.returns-in-Ok-Err-clause-answers
-returns-in-Ok-Err-clause-answers g c = λ volume m r. record {
-  carried = (let whole = whole_of c.args.core.now c.requires.size in
-      let x = r.session.stands.memory in
-      let named = r.session.stands.is.named in
-      let revealed = knows running_laws whole r in
-      let asked = c.range_of.ensures.asked in
-      let is = kill_refused m c.args.space c.in-Ok-Err.word (found_word m.spaces c.args.space c.in-Ok-Err.word c.in-Ok-Err.field-0 c.in-Ok-Err.field-0-is (c.in-Ok-Err.ensures.answer x named m.spaces revealed)) in
-      record {
-        allowed = allowed_refused m (call.Kill c.args.space) c.in-Ok-Err.word is;
-        runs = subst (λ (n : Machine). Runs c.range_of.new.core volume n) (sym (next_refused m (call.Kill c.args.space) c.in-Ok-Err.word is)) (still_runs running_laws whole r (came_own asked.reaches asked.came asked.same asked.intervals));
-      });
-  sound = tt;
-  passes = (still_reveals running_laws (whole_of c.args.core.now c.requires.size) r (state c.range_of.new.core) (λ d revealed. g.met.D.Disk.in_form (disk_of c.args.core.now.filer) d revealed) (call.Kill c.args.space) (reached_makes c.range_of.ensures.asked.reaches));
-}
+returns-in-Ok-Err-clause-answers g c = λ volume m r.
+    let old = c.args.core.now in
+    let known = knows_of old (accepted old.filer) c.requires.size volume m r in
+    let is = kill_refused m c.args.space c.in-Ok-Err.word (found_word m.spaces c.args.space c.in-Ok-Err.word c.in-Ok-Err.field-0 c.in-Ok-Err.field-0-is (c.in-Ok-Err.ensures.answer _ _ m.spaces known)) in
+    looked_word (asked g (goal.at.returns-in-Ok-Err-clause-answers g c).After-range_of) (g.met.D.Disk.in_form (disk_of old.filer)) r (call.Kill c.args.space) c.in-Ok-Err.word is
 
 pub returns-in-Ok-Err-clause-gone : goal.returns-in-Ok-Err-clause-gone
 returns-in-Ok-Err-clause-gone g c = λ volume m s r there.
-    let whole = whole_of c.args.core.now c.requires.size in
-    let x = r.session.stands.memory in
-    let named = r.session.stands.is.named in
-    let revealed = knows running_laws whole r in
-    absurd (never_refused m.spaces c.args.space s c.in-Ok-Err.word there (found_word m.spaces c.args.space c.in-Ok-Err.word c.in-Ok-Err.field-0 c.in-Ok-Err.field-0-is (c.in-Ok-Err.ensures.answer x named m.spaces revealed)))
-
-pub returns-in-Ok-Err-clause-wrote : goal.returns-in-Ok-Err-clause-wrote
-returns-in-Ok-Err-clause-wrote g c = wrote_so (reached_makes c.range_of.ensures.asked.reaches)
+    let old = c.args.core.now in
+    let known = knows_of old (accepted old.filer) c.requires.size volume m r in
+    absurd (never_refused m.spaces c.args.space s c.in-Ok-Err.word there (found_word m.spaces c.args.space c.in-Ok-Err.word c.in-Ok-Err.field-0 c.in-Ok-Err.field-0-is (c.in-Ok-Err.ensures.answer _ _ m.spaces known)))
 
 -- ---- The disk failed.
 
 pub returns-in-Err-clause-answers : goal.returns-in-Err-clause-answers
-returns-in-Err-clause-answers g c = λ volume m r. record {
-  carried = tt;
-  sound = (let whole = whole_of c.args.core.now c.requires.size in
-      let x = r.session.stands.memory in
-      let named = r.session.stands.is.named in
-      let revealed = knows running_laws whole r in
-      c.in-Err.ensures.sound x named m.spaces revealed);
-  passes = (still_reveals running_laws (whole_of c.args.core.now c.requires.size) r (state c.range_of.new.core) (λ d revealed. g.met.D.Disk.in_form (disk_of c.args.core.now.filer) d revealed) (call.Kill c.args.space) (reached_makes c.range_of.ensures.asked.reaches));
-}
+returns-in-Err-clause-answers g c = λ volume m r.
+    let old = c.args.core.now in
+    let known = knows_of old (accepted old.filer) c.requires.size volume m r in
+    looked_fault (asked g (goal.at.returns-in-Err-clause-answers g c).After-range_of) (g.met.D.Disk.in_form (disk_of old.filer)) r (call.Kill c.args.space) c.in-Err.halt (c.in-Err.ensures.answer _ _ m.spaces known)
 
-pub returns-in-Err-clause-wrote : goal.returns-in-Err-clause-wrote
-returns-in-Err-clause-wrote g c = wrote_so (reached_makes c.range_of.ensures.asked.reaches)
+pub returns-in-Err-clause-fails : goal.returns-in-Err-clause-fails
+returns-in-Err-clause-fails g c =
+    let old = c.args.core.now in
+    halts_wider c.in-Err.ensures.fails (asked_halt (state old) (state c.range_of.new.core) (accepted old.filer) c.args.space old.intervals c.in-Err.halt c.in-Err.ensures.fails.cause)
 
 pub returns-in-Err-kill-clause-answers : goal.returns-in-Err-kill-clause-answers
-returns-in-Err-kill-clause-answers g c = λ volume m r. record {
-  carried = tt;
-  sound = (let whole = whole_of c.args.core.now c.requires.size in
-      let x = r.session.stands.memory in
-      let named = r.session.stands.is.named in
-      let revealed = knows running_laws whole r in
-      c.in-Err-kill.ensures.fails.sound x named m.spaces (c.range_of.ensures.asked.same x named m.spaces revealed));
-  passes = (still_reveals running_laws (whole_of c.args.core.now c.requires.size) r (state c.kill.new.self) (λ d revealed. g.met.D.Disk.in_form (disk_of c.args.core.now.filer) d revealed) (call.Kill c.args.space) (makes_then (reached_makes c.range_of.ensures.asked.reaches) (give_makes c.kill.ensures.brings.touches)));
-}
+returns-in-Err-kill-clause-answers g c = λ volume m r.
+    let old = c.args.core.now in
+    let known = knows_of old (accepted old.filer) c.requires.size volume m r in
+    let sound = c.in-Err-kill.ensures.fails.sound _ _ m.spaces (c.range_of.ensures.asked.same _ _ m.spaces known) in
+    record { carried = tt; sound = sound; passes = quiet_passes old c.kill.new.self volume m _ (g.met.D.Disk.in_form (disk_of old.filer)) r (killed g (goal.at.returns-in-Err-kill-clause-answers g c).After-kill).makes }
 
-pub returns-in-Err-kill-clause-wrote : goal.returns-in-Err-kill-clause-wrote
-returns-in-Err-kill-clause-wrote g c = wrote_so (makes_then (reached_makes c.range_of.ensures.asked.reaches) (give_makes c.kill.ensures.brings.touches))
+pub returns-in-Err-kill-clause-fails : goal.returns-in-Err-kill-clause-fails
+returns-in-Err-kill-clause-fails g c =
+    let old = c.args.core.now in
+    let mid = c.range_of.new.core in
+    let first = c.range_of.ensures.asked in
+    let looks = asked g (goal.at.returns-in-Err-kill-clause-fails g c).After-range_of in
+    let fails = halts_at (looks_fits looks c.requires.size) c.kill.ensures.brings.touches.goes.makes c.in-Err-kill.halt c.in-Err-kill.ensures.fails.cause c.in-Err-kill.ensures.fails.right in
+    let read = given_so (TablesSay (state old) (λ b. IsRunAt b c.args.space)) c.in-Ok-Ok.found c.in-Ok-Ok.field-0 c.in-Ok-Ok.field-0-is c.in-Ok-Ok.ensures.read in
+    halts_after looks fails (within_halt (state old) (state mid) (accepted old.filer) c.args.space first.reaches old.intervals mid.intervals first.intervals (state c.kill.new.self) c.in-Ok-Ok.found read c.in-Err-kill.halt c.in-Err-kill.ensures.fails.cause)
 
 -- ---- It is done.
 
@@ -111,7 +105,7 @@ returns-clause-answers g c = λ volume m r. record {
             c.kill.ensures.brings.came (λ z is. c.kill.ensures.stays.known y z triples m.spaces then_revealed is);
       });
   sound = tt;
-  passes = (still_reveals running_laws (whole_of c.args.core.now c.requires.size) r (state c.kill.new.self) (λ d revealed. g.met.D.Disk.in_form (disk_of c.args.core.now.filer) d revealed) (call.Kill c.args.space) (makes_then (reached_makes c.range_of.ensures.asked.reaches) (give_makes c.kill.ensures.brings.touches)));
+  passes = quiet_passes c.args.core.now c.kill.new.self volume m _ (g.met.D.Disk.in_form (disk_of c.args.core.now.filer)) r (killed g (goal.at.returns-clause-answers g c).After-kill).makes;
 }
 
 pub returns-clause-gone : goal.returns-clause-gone
@@ -122,22 +116,6 @@ returns-clause-gone g c = λ volume m s r there.
     let revealed = knows running_laws whole r in
     let found = found_run m.spaces c.args.space c.in-Ok-Ok.found c.in-Ok-Ok.field-0 c.in-Ok-Ok.field-0-is (c.in-Ok-Ok.ensures.answer x named m.spaces revealed) in
     of_space m.spaces c.args.space s c.in-Ok-Ok.found (AreWritableSo (is_absent (state c.kill.new.self).slots) m.spaces) found.1 there (c.in-Ok.ensures.gone x named m.spaces (c.range_of.ensures.asked.same x named m.spaces revealed))
-
-pub returns-clause-wrote : goal.returns-clause-wrote
-returns-clause-wrote g c = wrote_so (makes_then (reached_makes c.range_of.ensures.asked.reaches) (give_makes c.kill.ensures.brings.touches))
-
--- ---- Why it failed.
-
-pub returns-in-Err-clause-cause : goal.returns-in-Err-clause-cause
-returns-in-Err-clause-cause g c = asked_halt (state c.args.core.now) (state c.range_of.new.core) (accepted c.args.core.now.filer) c.args.space c.args.core.now.intervals c.in-Err.halt c.in-Err.ensures.cause
-
-pub returns-in-Err-kill-clause-cause : goal.returns-in-Err-kill-clause-cause
-returns-in-Err-kill-clause-cause g c =
-    let asked = c.range_of.ensures.asked in
-    within_halt (state c.args.core.now) (state c.range_of.new.core) (accepted c.args.core.now.filer) c.args.space asked.reaches c.args.core.now.intervals c.range_of.new.core.intervals asked.intervals (state c.kill.new.self) c.in-Ok-Ok.found (given_so (TablesSay (state c.args.core.now) (λ b. IsRunAt b c.args.space)) c.in-Ok-Ok.found c.in-Ok-Ok.field-0 c.in-Ok-Ok.field-0-is c.in-Ok-Ok.ensures.read) c.in-Err-kill.halt c.in-Err-kill.ensures.fails.cause
-
-pub returns-in-Err-kill-clause-evidence_seen : goal.returns-in-Err-kill-clause-evidence_seen
-returns-in-Err-kill-clause-evidence_seen g c = shows_evidence _ (state c.range_of.new.core) (state c.kill.new.self) (fits (swapper_of c.range_of.new.core.filer) (search rules)) c.kill.ensures.brings.touches.goes.makes c.in-Err-kill.halt c.in-Err-kill.ensures.fails.cause
 
 -- ---- No table was asked but for the space.
 
@@ -169,41 +147,22 @@ returns-clause-idle g c = λ volume m s r there found.
     let cost = c.range_of.ensures.cost in
     omega (arith, same, cost)
 
--- ---- No label was written.
+-- ---- Whatever it came to.
 
-pub returns-in-Ok-Err-clause-moves : goal.returns-in-Ok-Err-clause-moves
-returns-in-Ok-Err-clause-moves g c = moves_of_reaches (state c.args.core.now) (state c.range_of.new.core) c.range_of.ensures.asked.reaches
+pub returns-in-Ok-Err-clause-went : goal.returns-in-Ok-Err-clause-went
+returns-in-Ok-Err-clause-went g c = own_looked (asked g (goal.at.returns-in-Ok-Err-clause-went g c).After-range_of)
 
-pub returns-in-Err-clause-moves : goal.returns-in-Err-clause-moves
-returns-in-Err-clause-moves g c = moves_of_reaches (state c.args.core.now) (state c.range_of.new.core) c.range_of.ensures.asked.reaches
+pub returns-in-Err-clause-went : goal.returns-in-Err-clause-went
+returns-in-Err-clause-went g c = own_looked (asked g (goal.at.returns-in-Err-clause-went g c).After-range_of)
 
-pub returns-in-Err-kill-clause-moves : goal.returns-in-Err-kill-clause-moves
-returns-in-Err-kill-clause-moves g c = moves_after (state c.args.core.now) (state c.range_of.new.core) (state c.kill.new.self) (accepted c.args.core.now.filer) c.range_of.ensures.asked.reaches (moves_of_touches (state c.range_of.new.core) (state c.kill.new.self) no_page c.kill.ensures.brings.touches)
+pub returns-in-Err-kill-clause-went : goal.returns-in-Err-kill-clause-went
+returns-in-Err-kill-clause-went g c = own_made (killed g (goal.at.returns-in-Err-kill-clause-went g c).After-kill)
 
-pub returns-clause-moves : goal.returns-clause-moves
-returns-clause-moves g c = moves_after (state c.args.core.now) (state c.range_of.new.core) (state c.kill.new.self) (accepted c.args.core.now.filer) c.range_of.ensures.asked.reaches (moves_of_touches (state c.range_of.new.core) (state c.kill.new.self) no_page c.kill.ensures.brings.touches)
-
--- ---- The tables are revealed.
+pub returns-clause-went : goal.returns-clause-went
+returns-clause-went g c = own_made (killed g (goal.at.returns-clause-went g c).After-kill)
 
 pub returns-in-Ok-Err-clause-sees : goal.returns-in-Ok-Err-clause-sees
-returns-in-Ok-Err-clause-sees g c = λ ss s. (ss, (c.range_of.ensures.still ss s, shown_here ss))
-
-pub returns-in-Err-kill-clause-right : goal.returns-in-Err-kill-clause-right
-returns-in-Err-kill-clause-right g c = λ s. c.in-Err-kill.ensures.fails.right s.0 (c.range_of.ensures.still s.0 s.1)
+returns-in-Ok-Err-clause-sees g c = on_looked (asked g (goal.at.returns-in-Ok-Err-clause-sees g c).After-range_of)
 
 pub returns-clause-sees : goal.returns-clause-sees
 returns-clause-sees g c = λ ss s. (ss, (c.kill.ensures.stays.sees ss (c.range_of.ensures.still ss s), shown_here ss))
-
--- ---- Which pages came.
-
-pub returns-in-Ok-Err-clause-came : goal.returns-in-Ok-Err-clause-came
-returns-in-Ok-Err-clause-came g c = c.range_of.ensures.asked.came
-
-pub returns-in-Err-clause-came : goal.returns-in-Err-clause-came
-returns-in-Err-clause-came g c = c.range_of.ensures.asked.came
-
-pub returns-in-Err-kill-clause-came : goal.returns-in-Err-kill-clause-came
-returns-in-Err-kill-clause-came g c = brings_then c.range_of.ensures.asked.came c.kill.ensures.brings.came
-
-pub returns-clause-came : goal.returns-clause-came
-returns-clause-came g c = brings_then c.range_of.ensures.asked.came c.kill.ensures.brings.came

@@ -1,23 +1,22 @@
-use Rattle.std.proofs.Common.{◌≡◌, ◌∙◌, sym, subst, length, ℕ, List, refl, rules}
+use Rattle.std.proofs.Common.{Err, ◌≡◌, ◌∙◌, sym, subst, length, ℕ, List, refl, rules}
 use Rattle.flat_machine.specs.declared.call.Call.TheVariants as call
 use Rattle.flat_machine.specs.declared.call.Reply.TheVariants as reply
 use Rattle.flat_machine.specs.Allows.{Allows}
 use Rattle.fault_core.specs.declared.reference.Access.TheVariants as access
 use Rattle.fault_core.specs.Access.{BreaksFor, last_page}
 use Rattle.fault_core.specs.Core.{kept, state}
-use Rattle.fault_core.specs.Lack.{MissesPage, shown_units}
+use Rattle.fault_core.specs.Lack.{shown_units}
 use Rattle.fault_core.specs.Reach.{TouchHalts}
 use Rattle.fault_core.specs.Unit.{IsReady}
 use Rattle.running_words.proofs.RunningLemmas.{running_laws}
 use Rattle.space_calls.proofs.RunLemmas.{reached_makes}
-use Rattle.space_calls.proofs.CameLemmas.{Came, knows, still_reveals, whole_of, wrote_so}
+use Rattle.space_calls.proofs.CameLemmas.{Came, knows, still_reveals, whole_of}
 use Rattle.space_calls.proofs.LoadLemmas.{load_carried, load_not_refused}
-use Rattle.filer_kernel.specs.EvidenceLaws.{fits}
-use Rattle.fault_core.proofs.EvidenceLemmas.{touch_so}
-use Rattle.running_words.specs.MovingLaws.{moves_of_reaches}
 use Rattle.space_calls.specs.FilesLaws.{shown_here}
 use Rattle.space_calls.proofs.reference.load.Goals as goal
-use Rattle.filer_kernel.specs.View.{disk_of, swapper_of}
+use Rattle.space_calls.proofs.OutcomeLemmas.{halts_bringing, over_reached}
+use Rattle.space_calls.specs.Outcomes.{HaltsToBring}
+use Rattle.filer_kernel.specs.View.{disk_of}
 
 -- ---- The bytes were loaded.
 
@@ -86,24 +85,12 @@ returns-in-Ok-ReadOnly-clause-ready g c =
 
 -- ---- Whatever it came to.
 
-pub returns-in-Ok-Done-clause-wrote : goal.returns-in-Ok-Done-clause-wrote
-returns-in-Ok-Done-clause-wrote g c = wrote_so (reached_makes c.load.ensures.brings.reaches)
-
-pub returns-in-Ok-NoMap-clause-wrote : goal.returns-in-Ok-NoMap-clause-wrote
-returns-in-Ok-NoMap-clause-wrote g c = wrote_so (reached_makes c.load.ensures.brings.reaches)
-
-pub returns-in-Ok-ReadOnly-clause-wrote : goal.returns-in-Ok-ReadOnly-clause-wrote
-returns-in-Ok-ReadOnly-clause-wrote g c = wrote_so (reached_makes c.load.ensures.brings.reaches)
-
 pub returns-in-Err-clause-answers : goal.returns-in-Err-clause-answers
 returns-in-Err-clause-answers g c = λ volume m r. record {
   carried = tt;
   sound = (c.in-Err.ensures.fails.sound r.session.stands.memory r.session.stands.is.named m.spaces (knows running_laws (whole_of c.args.core.now c.requires.size) r));
   passes = (still_reveals running_laws (whole_of c.args.core.now c.requires.size) r (state c.load.new.self) (λ d revealed. g.met.D.Disk.in_form (disk_of c.args.core.now.filer) d revealed) (call.Load c.args.address c.args.count) (reached_makes c.load.ensures.brings.reaches));
 }
-
-pub returns-in-Err-clause-wrote : goal.returns-in-Err-clause-wrote
-returns-in-Err-clause-wrote g c = wrote_so (reached_makes c.load.ensures.brings.reaches)
 
 pub returns-in-Ok-Done-clause-idle : goal.returns-in-Ok-Done-clause-idle
 returns-in-Ok-Done-clause-idle g c =
@@ -137,33 +124,6 @@ returns-in-Err-clause-idle g c =
     let two = c.in-Err.ensures.idle first (subst (λ (n : ℕ). IsReady (kept c.args.core.now) (state c.args.core.now).slots (last_page c.args.address n)) (sym long ∙ c.load.ensures.moves.width) last) apart in
     (two.0, two.1, two.2)
 
-pub returns-in-Err-clause-cause : goal.returns-in-Err-clause-cause
-returns-in-Err-clause-cause g c =
-    let long : length c.load.new.into ≡ c.args.count = search rules in
-    subst (λ (n : ℕ). TouchHalts (BreaksFor (state c.args.core.now) c.args.core.now.intervals c.args.address n) (state c.args.core.now) (state c.load.new.self) c.in-Err.halt) (sym c.load.ensures.moves.width ∙ long) c.in-Err.ensures.fails.cause
-
-pub returns-in-Err-clause-missing : goal.returns-in-Err-clause-missing
-returns-in-Err-clause-missing g c =
-    let long : length c.load.new.into ≡ c.args.count = search rules in
-    λ ss s. subst (λ (n : ℕ). MissesPage (shown_units ss c.args.address n) c.in-Err.halt) (sym c.load.ensures.moves.width ∙ long) (c.in-Err.ensures.fails.missing ss s)
-
-pub returns-in-Err-clause-evidence_seen : goal.returns-in-Err-clause-evidence_seen
-returns-in-Err-clause-evidence_seen g c = touch_so _ (state c.args.core.now) (state c.load.new.self) (fits (swapper_of c.args.core.now.filer) c.requires.size) c.load.ensures.brings.reaches.goes.makes c.in-Err.halt c.in-Err.ensures.fails.cause
-
--- ---- No label was written.
-
-pub returns-in-Ok-Done-clause-moves : goal.returns-in-Ok-Done-clause-moves
-returns-in-Ok-Done-clause-moves g c = moves_of_reaches (state c.args.core.now) (state c.load.new.self) c.load.ensures.brings.reaches
-
-pub returns-in-Ok-NoMap-clause-moves : goal.returns-in-Ok-NoMap-clause-moves
-returns-in-Ok-NoMap-clause-moves g c = moves_of_reaches (state c.args.core.now) (state c.load.new.self) c.load.ensures.brings.reaches
-
-pub returns-in-Ok-ReadOnly-clause-moves : goal.returns-in-Ok-ReadOnly-clause-moves
-returns-in-Ok-ReadOnly-clause-moves g c = moves_of_reaches (state c.args.core.now) (state c.load.new.self) c.load.ensures.brings.reaches
-
-pub returns-in-Err-clause-moves : goal.returns-in-Err-clause-moves
-returns-in-Err-clause-moves g c = moves_of_reaches (state c.args.core.now) (state c.load.new.self) c.load.ensures.brings.reaches
-
 -- ---- The tables are revealed.
 
 pub returns-in-Ok-Done-clause-sees : goal.returns-in-Ok-Done-clause-sees
@@ -175,5 +135,25 @@ returns-in-Ok-NoMap-clause-sees g c = λ ss s. (ss, (c.load.ensures.stays.sees s
 pub returns-in-Ok-ReadOnly-clause-sees : goal.returns-in-Ok-ReadOnly-clause-sees
 returns-in-Ok-ReadOnly-clause-sees g c = λ ss s. (ss, (c.load.ensures.stays.sees ss s, shown_here ss))
 
-pub returns-in-Err-clause-right : goal.returns-in-Err-clause-right
-returns-in-Err-clause-right g c = λ s. c.in-Err.ensures.fails.right s.0 s.1
+-- ---- What was written.
+
+pub returns-in-Ok-Done-clause-went : goal.returns-in-Ok-Done-clause-went
+returns-in-Ok-Done-clause-went g c = over_reached c.load.ensures.brings.reaches
+
+pub returns-in-Ok-NoMap-clause-went : goal.returns-in-Ok-NoMap-clause-went
+returns-in-Ok-NoMap-clause-went g c = over_reached c.load.ensures.brings.reaches
+
+pub returns-in-Ok-ReadOnly-clause-went : goal.returns-in-Ok-ReadOnly-clause-went
+returns-in-Ok-ReadOnly-clause-went g c = over_reached c.load.ensures.brings.reaches
+
+pub returns-in-Err-clause-went : goal.returns-in-Err-clause-went
+returns-in-Err-clause-went g c = over_reached c.load.ensures.brings.reaches
+
+-- ---- Why it failed.
+
+pub returns-in-Err-clause-fails : goal.returns-in-Err-clause-fails
+returns-in-Err-clause-fails g c =
+    let long : length c.load.new.into ≡ c.args.count = search rules in
+    let fails = halts_bringing c.requires.size c.load.ensures.brings.reaches.goes.makes c.in-Err.halt c.in-Err.ensures.fails in
+    subst (λ (n : ℕ). HaltsToBring (TouchHalts (BreaksFor (state c.args.core.now) c.args.core.now.intervals c.args.address n) (state c.args.core.now) (state c.load.new.self)) (λ ss. shown_units ss c.args.address n) c.args.core.now c.load.new.self (Err c.in-Err.halt))
+    (sym c.load.ensures.moves.width ∙ long) fails

@@ -4,19 +4,17 @@ use Rattle.flat_machine.specs.Bytes.{AreBytes}
 use Rattle.fault_core.specs.declared.reference.Access.{Access}
 use Rattle.fault_core.specs.declared.reference.Access.TheVariants as access
 use Rattle.fault_core.specs.Core.{kept, state}
-use Rattle.fault_core.specs.Moves.{StoresAs, client_page}
+use Rattle.fault_core.specs.Moves.{StoresAs}
 use Rattle.session_words.specs.CellLaws.{IsTouchedOrOwn}
 use Rattle.swapper_kernel.specs.Goes.{Goes}
 use Rattle.running_words.proofs.RunningLemmas.{running_laws}
-use Rattle.space_calls.proofs.CameLemmas.{Came, knows, store_makes, touched_makes, whole_of, wrote_so}
+use Rattle.space_calls.proofs.CameLemmas.{Came, knows, touched_makes, whole_of, wrote_so}
 use Rattle.space_calls.proofs.MovedLemmas.{store_runs}
 use Rattle.space_calls.proofs.StoreLemmas.{are_bytes, other_than_done, refused_came, stays_where, store_allowed, store_not_refused, store_stays, store_reveals, store_word}
-use Rattle.filer_kernel.specs.EvidenceLaws.{fits}
-use Rattle.fault_core.proofs.EvidenceLemmas.{touch_so}
-use Rattle.running_words.specs.MovingLaws.{moves_of_touches}
 use Rattle.space_calls.specs.FilesLaws.{shown_here}
 use Rattle.space_calls.proofs.reference.store.Goals as goal
-use Rattle.filer_kernel.specs.View.{disk_of, swapper_of}
+use Rattle.space_calls.proofs.OutcomeLemmas.{halts_bringing, over_stored}
+use Rattle.filer_kernel.specs.View.{disk_of}
 
 -- ---- The bytes were stored.
 
@@ -121,18 +119,6 @@ returns-in-Err-clause-answers g c = λ volume m r. record {
 
 -- ---- Whatever it came to.
 
-pub returns-in-Ok-Done-clause-wrote : goal.returns-in-Ok-Done-clause-wrote
-returns-in-Ok-Done-clause-wrote g c = wrote_so (store_makes c.store.ensures.brings.touches)
-
-pub returns-in-Ok-NoMap-clause-wrote : goal.returns-in-Ok-NoMap-clause-wrote
-returns-in-Ok-NoMap-clause-wrote g c = wrote_so (store_makes c.store.ensures.brings.touches)
-
-pub returns-in-Ok-ReadOnly-clause-wrote : goal.returns-in-Ok-ReadOnly-clause-wrote
-returns-in-Ok-ReadOnly-clause-wrote g c = wrote_so (store_makes c.store.ensures.brings.touches)
-
-pub returns-in-Err-clause-wrote : goal.returns-in-Err-clause-wrote
-returns-in-Err-clause-wrote g c = wrote_so (store_makes c.store.ensures.brings.touches)
-
 pub returns-in-Ok-Done-clause-idle : goal.returns-in-Ok-Done-clause-idle
 returns-in-Ok-Done-clause-idle g c = λ volume m r first last.
     let apart = running_laws.apart (state c.args.core.now) (kept c.args.core.now) c.args.core.now.intervals volume m r in
@@ -151,28 +137,11 @@ returns-in-Ok-ReadOnly-clause-idle g c = λ volume m r first last.
     let two = c.in-Ok-ReadOnly.ensures.idle first last apart in
     (refl, two.1, two.2)
 
-pub returns-in-Err-clause-evidence_seen : goal.returns-in-Err-clause-evidence_seen
-returns-in-Err-clause-evidence_seen g c = touch_so _ (state c.args.core.now) (state c.store.new.self) (fits (swapper_of c.args.core.now.filer) c.requires.size) c.store.ensures.brings.touches.goes.makes c.in-Err.halt c.in-Err.ensures.fails.cause
-
 pub returns-in-Err-clause-idle : goal.returns-in-Err-clause-idle
 returns-in-Err-clause-idle g c = λ volume m r first last.
     let apart = running_laws.apart (state c.args.core.now) (kept c.args.core.now) c.args.core.now.intervals volume m r in
     let two = c.in-Err.ensures.idle first last apart in
     (two.0, two.1, two.2)
-
--- ---- No label was written.
-
-pub returns-in-Ok-Done-clause-moves : goal.returns-in-Ok-Done-clause-moves
-returns-in-Ok-Done-clause-moves g c = moves_of_touches (state c.args.core.now) (state c.store.new.self) client_page c.store.ensures.brings.touches
-
-pub returns-in-Ok-NoMap-clause-moves : goal.returns-in-Ok-NoMap-clause-moves
-returns-in-Ok-NoMap-clause-moves g c = moves_of_touches (state c.args.core.now) (state c.store.new.self) client_page c.store.ensures.brings.touches
-
-pub returns-in-Ok-ReadOnly-clause-moves : goal.returns-in-Ok-ReadOnly-clause-moves
-returns-in-Ok-ReadOnly-clause-moves g c = moves_of_touches (state c.args.core.now) (state c.store.new.self) client_page c.store.ensures.brings.touches
-
-pub returns-in-Err-clause-moves : goal.returns-in-Err-clause-moves
-returns-in-Err-clause-moves g c = moves_of_touches (state c.args.core.now) (state c.store.new.self) client_page c.store.ensures.brings.touches
 
 -- ---- The tables are revealed.
 
@@ -185,9 +154,6 @@ returns-in-Ok-NoMap-clause-sees g c = λ ss s. (ss, (c.store.ensures.stays.sees 
 pub returns-in-Ok-ReadOnly-clause-sees : goal.returns-in-Ok-ReadOnly-clause-sees
 returns-in-Ok-ReadOnly-clause-sees g c = λ ss s. (ss, (c.store.ensures.stays.sees ss s, shown_here ss))
 
-pub returns-in-Err-clause-right : goal.returns-in-Err-clause-right
-returns-in-Err-clause-right g c = λ s. c.in-Err.ensures.fails.right s.0 s.1
-
 pub returns-in-Ok-Done-clause-shown : goal.returns-in-Ok-Done-clause-shown
 returns-in-Ok-Done-clause-shown g c = λ ss s. wrote_so (touched_makes ss c.args.address (length c.args.bytes.now) (c.store.ensures.brings.shown ss s))
 
@@ -199,3 +165,22 @@ returns-in-Ok-ReadOnly-clause-shown g c = λ ss s. wrote_so (touched_makes ss c.
 
 pub returns-in-Err-clause-shown : goal.returns-in-Err-clause-shown
 returns-in-Err-clause-shown g c = λ ss s. wrote_so (touched_makes ss c.args.address (length c.args.bytes.now) (c.store.ensures.brings.shown ss s))
+
+-- ---- What was written.
+
+pub returns-in-Ok-Done-clause-went : goal.returns-in-Ok-Done-clause-went
+returns-in-Ok-Done-clause-went g c = over_stored c.store.ensures.brings.touches
+
+pub returns-in-Ok-NoMap-clause-went : goal.returns-in-Ok-NoMap-clause-went
+returns-in-Ok-NoMap-clause-went g c = over_stored c.store.ensures.brings.touches
+
+pub returns-in-Ok-ReadOnly-clause-went : goal.returns-in-Ok-ReadOnly-clause-went
+returns-in-Ok-ReadOnly-clause-went g c = over_stored c.store.ensures.brings.touches
+
+pub returns-in-Err-clause-went : goal.returns-in-Err-clause-went
+returns-in-Err-clause-went g c = over_stored c.store.ensures.brings.touches
+
+-- ---- Why it failed.
+
+pub returns-in-Err-clause-fails : goal.returns-in-Err-clause-fails
+returns-in-Err-clause-fails g c = halts_bringing c.requires.size c.store.ensures.brings.touches.goes.makes c.in-Err.halt c.in-Err.ensures.fails

@@ -1,81 +1,63 @@
-use Rattle.space_calls.proofs.RunLemmas.{asked_makes, asked_runs, knows, nothing_labelled, quiet_passes}
+use Rattle.std.proofs.Common.{Err}
+use Rattle.filer_kernel.specs.View.{accepted, disk_of}
+use Rattle.space_calls.specs.Calls.{Looks}
+use Rattle.space_calls.proofs.LookLemmas.{looked_fault, looks_asked}
+use Rattle.space_calls.proofs.OutcomeLemmas.{halts_reached, on_looked, own_looked}
+use Rattle.space_calls.proofs.RunLemmas.{knows, quiet_passes}
 use Rattle.space_calls.proofs.SpaceLemmas.{place_refused, space_placed}
-use Rattle.fault_core.specs.Core.{state}
-use Rattle.filer_kernel.specs.EvidenceLaws.{fits}
-use Rattle.fault_core.proofs.EvidenceLemmas.{shows_evidence}
-use Rattle.running_words.specs.MovingLaws.{moves_of_reaches}
-use Rattle.space_calls.specs.FilesLaws.{shown_here}
+use Rattle.space_calls.proofs.spaces.place.Given as given
 use Rattle.space_calls.proofs.spaces.place.Goals as goal
-use Rattle.filer_kernel.specs.View.{accepted, disk_of, swapper_of}
+use Rattle.space_calls.proofs.spaces.place.Goals.{After-place}
+
+looks : (g : given.Over) (c : After-place g) → Looks c.args.core.now c.place.new.core
+looks g c = looks_asked c.requires.size c.place.ensures.asked c.place.ensures.sees
 
 pub returns-in-Ok-Ok-clause-answers : goal.returns-in-Ok-Ok-clause-answers
-returns-in-Ok-Ok-clause-answers g c = λ volume m r. record {
-  carried = (let old = c.args.core.now in
-      space_placed c.place.new.core volume m (asked_runs old (accepted old.filer) c.requires.size c.place.new.core volume m c.place.ensures.asked r) c.args.page c.in-Ok-Ok.field-0 c.in-Ok-Ok.handle c.in-Ok-Ok.first c.in-Ok-Ok.pages c.in-Ok-Ok.field-0-is
-      (c.in-Ok-Ok.ensures.answer _ _ m.spaces (knows old (accepted old.filer) c.requires.size volume m r)));
-  sound = tt;
-  passes = (quiet_passes c.args.core.now c.place.new.core volume m _ (g.met.D.Disk.in_form (disk_of c.args.core.now.filer)) r (asked_makes _ _ c.place.ensures.asked));
-}
+returns-in-Ok-Ok-clause-answers g c = λ volume m r.
+    let old = c.args.core.now in
+    let looked = looks g (goal.at.returns-in-Ok-Ok-clause-answers g c).After-place in
+    record {
+      carried = space_placed c.place.new.core volume m (looked.runs volume m r) c.args.page c.in-Ok-Ok.field-0 c.in-Ok-Ok.handle c.in-Ok-Ok.first c.in-Ok-Ok.pages c.in-Ok-Ok.field-0-is
+          (c.in-Ok-Ok.ensures.answer _ _ m.spaces (knows old (accepted old.filer) c.requires.size volume m r));
+      sound = tt;
+      passes = quiet_passes old c.place.new.core volume m _ (g.met.D.Disk.in_form (disk_of old.filer)) r looked.makes;
+    }
 
 pub returns-in-Ok-Err-clause-answers : goal.returns-in-Ok-Err-clause-answers
-returns-in-Ok-Err-clause-answers g c = λ volume m r. record {
-  carried = (let old = c.args.core.now in
-      place_refused c.place.new.core volume m (asked_runs old (accepted old.filer) c.requires.size c.place.new.core volume m c.place.ensures.asked r) c.args.page c.in-Ok-Err.field-0 c.in-Ok-Err.word c.in-Ok-Err.field-0-is
-      (c.in-Ok-Err.ensures.answer _ _ m.spaces (knows old (accepted old.filer) c.requires.size volume m r)));
-  sound = tt;
-  passes = (quiet_passes c.args.core.now c.place.new.core volume m _ (g.met.D.Disk.in_form (disk_of c.args.core.now.filer)) r (asked_makes _ _ c.place.ensures.asked));
-}
+returns-in-Ok-Err-clause-answers g c = λ volume m r.
+    let old = c.args.core.now in
+    let looked = looks g (goal.at.returns-in-Ok-Err-clause-answers g c).After-place in
+    record {
+      carried = place_refused c.place.new.core volume m (looked.runs volume m r) c.args.page c.in-Ok-Err.field-0 c.in-Ok-Err.word c.in-Ok-Err.field-0-is
+          (c.in-Ok-Err.ensures.answer _ _ m.spaces (knows old (accepted old.filer) c.requires.size volume m r));
+      sound = tt;
+      passes = quiet_passes old c.place.new.core volume m _ (g.met.D.Disk.in_form (disk_of old.filer)) r looked.makes;
+    }
 
 pub returns-in-Err-clause-answers : goal.returns-in-Err-clause-answers
-returns-in-Err-clause-answers g c = λ volume m r. record {
-  carried = tt;
-  sound = (c.in-Err.ensures.sound _ _ m.spaces (knows c.args.core.now (accepted c.args.core.now.filer) c.requires.size volume m r));
-  passes = (quiet_passes c.args.core.now c.place.new.core volume m _ (g.met.D.Disk.in_form (disk_of c.args.core.now.filer)) r (asked_makes _ _ c.place.ensures.asked));
-}
+returns-in-Err-clause-answers g c = λ volume m r.
+    let old = c.args.core.now in
+    let looked = looks g (goal.at.returns-in-Err-clause-answers g c).After-place in
+    looked_fault looked (g.met.D.Disk.in_form (disk_of old.filer)) r _ c.in-Err.halt (c.in-Err.ensures.sound _ _ m.spaces (knows old (accepted old.filer) c.requires.size volume m r))
 
-pub returns-in-Ok-Ok-clause-wrote : goal.returns-in-Ok-Ok-clause-wrote
-returns-in-Ok-Ok-clause-wrote g c = nothing_labelled (asked_makes _ _ c.place.ensures.asked)
+-- ---- What was written, and what is seen.
 
-pub returns-in-Ok-Err-clause-wrote : goal.returns-in-Ok-Err-clause-wrote
-returns-in-Ok-Err-clause-wrote g c = nothing_labelled (asked_makes _ _ c.place.ensures.asked)
+pub returns-in-Ok-Ok-clause-went : goal.returns-in-Ok-Ok-clause-went
+returns-in-Ok-Ok-clause-went g c = own_looked (looks g (goal.at.returns-in-Ok-Ok-clause-went g c).After-place)
 
-pub returns-in-Err-clause-wrote : goal.returns-in-Err-clause-wrote
-returns-in-Err-clause-wrote g c = nothing_labelled (asked_makes _ _ c.place.ensures.asked)
+pub returns-in-Ok-Err-clause-went : goal.returns-in-Ok-Err-clause-went
+returns-in-Ok-Err-clause-went g c = own_looked (looks g (goal.at.returns-in-Ok-Err-clause-went g c).After-place)
 
--- ---- What its evidence says is so.
-
-pub returns-in-Err-clause-evidence_seen : goal.returns-in-Err-clause-evidence_seen
-returns-in-Err-clause-evidence_seen g c = shows_evidence _ (state c.args.core.now) (state c.place.new.core) (fits (swapper_of c.args.core.now.filer) c.requires.size) c.place.ensures.asked.reaches.goes.makes c.in-Err.halt c.in-Err.ensures.cause
-
--- ---- No label was written.
-
-pub returns-in-Ok-Ok-clause-moves : goal.returns-in-Ok-Ok-clause-moves
-returns-in-Ok-Ok-clause-moves g c = moves_of_reaches (state c.args.core.now) (state c.place.new.core) c.place.ensures.asked.reaches
-
-pub returns-in-Ok-Err-clause-moves : goal.returns-in-Ok-Err-clause-moves
-returns-in-Ok-Err-clause-moves g c = moves_of_reaches (state c.args.core.now) (state c.place.new.core) c.place.ensures.asked.reaches
-
-pub returns-in-Err-clause-moves : goal.returns-in-Err-clause-moves
-returns-in-Err-clause-moves g c = moves_of_reaches (state c.args.core.now) (state c.place.new.core) c.place.ensures.asked.reaches
-
--- ---- The tables are revealed.
+pub returns-in-Err-clause-went : goal.returns-in-Err-clause-went
+returns-in-Err-clause-went g c = own_looked (looks g (goal.at.returns-in-Err-clause-went g c).After-place)
 
 pub returns-in-Ok-Ok-clause-sees : goal.returns-in-Ok-Ok-clause-sees
-returns-in-Ok-Ok-clause-sees g c = λ ss s. (ss, (c.place.ensures.sees ss s, shown_here ss))
+returns-in-Ok-Ok-clause-sees g c = on_looked (looks g (goal.at.returns-in-Ok-Ok-clause-sees g c).After-place)
 
 pub returns-in-Ok-Err-clause-sees : goal.returns-in-Ok-Err-clause-sees
-returns-in-Ok-Err-clause-sees g c = λ ss s. (ss, (c.place.ensures.sees ss s, shown_here ss))
+returns-in-Ok-Err-clause-sees g c = on_looked (looks g (goal.at.returns-in-Ok-Err-clause-sees g c).After-place)
 
-pub returns-in-Err-clause-right : goal.returns-in-Err-clause-right
-returns-in-Err-clause-right g c = λ s. c.in-Err.ensures.right s.0 s.1
+-- ---- Why it failed.
 
--- ---- Which pages came.
-
-pub returns-in-Ok-Ok-clause-came : goal.returns-in-Ok-Ok-clause-came
-returns-in-Ok-Ok-clause-came g c = c.place.ensures.asked.came
-
-pub returns-in-Ok-Err-clause-came : goal.returns-in-Ok-Err-clause-came
-returns-in-Ok-Err-clause-came g c = c.place.ensures.asked.came
-
-pub returns-in-Err-clause-came : goal.returns-in-Err-clause-came
-returns-in-Err-clause-came g c = c.place.ensures.asked.came
+pub returns-in-Err-clause-fails : goal.returns-in-Err-clause-fails
+returns-in-Err-clause-fails g c = halts_reached c.requires.size c.place.ensures.asked.reaches.goes.makes (Err c.in-Err.halt) c.in-Err.ensures.cause c.in-Err.ensures.right

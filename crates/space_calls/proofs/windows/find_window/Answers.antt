@@ -1,19 +1,16 @@
-use Rattle.swapper_kernel.specs.GoesLaws.{makes_then}
 use Rattle.space_calls.proofs.FileLemmas.{window_found, window_lost}
 use Rattle.space_calls.proofs.RunLemmas.{asked_makes, asked_runs, knows, size_kept}
 use Rattle.space_calls.proofs.TableAnswers.{shown_refused}
 use Rattle.fault_core.specs.Core.{state}
-use Rattle.filer_kernel.specs.EvidenceLaws.{fits}
-use Rattle.fault_core.proofs.EvidenceLemmas.{shows_evidence}
-use Rattle.std.proofs.Common.{ℕ, ◌∙◌, rules}
+use Rattle.std.proofs.Common.{ℕ, Err}
 use Rattle.space_tables.specs.Shows.{IsRunAt, IsShownAt}
 use Rattle.table_calls.specs.Answers.{TablesSay}
 use Rattle.space_calls.proofs.RangeLemmas.{given_so}
-use Rattle.fault_core.proofs.ReachLemmas.{reaches_then}
 use Rattle.space_calls.proofs.WindowHalts.{slot_halt}
 use Rattle.space_calls.proofs.windows.find_window.Goals as goal
-use Rattle.filer_kernel.specs.View.{accepted, swapper_of}
-use Rattle.space_calls.proofs.LookLemmas.{looks_asked, looks_asked_then}
+use Rattle.filer_kernel.specs.View.{accepted}
+use Rattle.space_calls.proofs.OutcomeLemmas.{halts_after, halts_at, halts_reached}
+use Rattle.space_calls.proofs.LookLemmas.{looks_asked, looks_asked_then, looks_fits}
 
 pub returns-in-Ok-Err-clause-answer : goal.returns-in-Ok-Err-clause-answer
 returns-in-Ok-Err-clause-answer g c = λ volume m r.
@@ -27,8 +24,8 @@ returns-in-Ok-Err-clause-looks g c = looks_asked c.requires.size c.shown.ensures
 pub returns-in-Err-clause-looks : goal.returns-in-Err-clause-looks
 returns-in-Err-clause-looks g c = looks_asked c.requires.size c.shown.ensures.asked c.shown.ensures.sees
 
-pub returns-in-Err-clause-sound : goal.returns-in-Err-clause-sound
-returns-in-Err-clause-sound g c = λ volume m r.
+pub returns-in-Err-clause-answer : goal.returns-in-Err-clause-answer
+returns-in-Err-clause-answer g c = λ volume m r.
     let old = c.args.core.now in
     let known = knows old (accepted old.filer) c.requires.size volume m r in
     c.in-Err.ensures.sound _ _ m.spaces known
@@ -51,8 +48,8 @@ returns-in-Ok-Err-bounds-clause-answer g c = λ volume m r.
     let next = knows seen (accepted seen.filer) size volume m r1 in
     absurd (window_lost m.spaces c.args.space c.in-Ok-Ok.field-0 c.in-Ok-Ok.shows c.in-Ok-Ok.field-0-is (c.in-Ok-Ok.ensures.answer _ _ m.spaces (knows old (accepted old.filer) c.requires.size volume m r)) c.in-Ok-Err-bounds.field-0 (c.in-Ok-Err-bounds.ensures.answer _ _ m.spaces next) c.in-Ok-Err-bounds.word c.in-Ok-Err-bounds.field-0-is)
 
-pub returns-in-Err-bounds-clause-sound : goal.returns-in-Err-bounds-clause-sound
-returns-in-Err-bounds-clause-sound g c = λ volume m r.
+pub returns-in-Err-bounds-clause-answer : goal.returns-in-Err-bounds-clause-answer
+returns-in-Err-bounds-clause-answer g c = λ volume m r.
     let old = c.args.core.now in
     let r1 = asked_runs old (accepted old.filer) c.requires.size c.shown.new.core volume m c.shown.ensures.asked r in
     let seen = c.shown.new.core in
@@ -69,14 +66,6 @@ returns-in-Ok-Err-bounds-clause-looks g c = looks_asked_then c.requires.size (lo
 pub returns-in-Err-bounds-clause-looks : goal.returns-in-Err-bounds-clause-looks
 returns-in-Err-bounds-clause-looks g c = looks_asked_then c.requires.size (looks_asked c.requires.size c.shown.ensures.asked c.shown.ensures.sees) c.bounds.ensures.asked c.bounds.ensures.sees
 
--- ---- What its evidence says is so.
-
-pub returns-in-Err-clause-evidence_seen : goal.returns-in-Err-clause-evidence_seen
-returns-in-Err-clause-evidence_seen g c = shows_evidence _ (state c.args.core.now) (state c.shown.new.core) (fits (swapper_of c.args.core.now.filer) c.requires.size) c.shown.ensures.asked.reaches.goes.makes c.in-Err.halt c.in-Err.ensures.cause
-
-pub returns-in-Err-bounds-clause-evidence_seen : goal.returns-in-Err-bounds-clause-evidence_seen
-returns-in-Err-bounds-clause-evidence_seen g c = shows_evidence _ (state c.shown.new.core) (state c.bounds.new.core) (fits (swapper_of c.shown.new.core.filer) (search rules)) c.bounds.ensures.asked.reaches.goes.makes c.in-Err-bounds.halt c.in-Err-bounds.ensures.cause
-
 -- ---- What the tables say.
 
 pub returns-in-Ok-Ok-bounds-clause-read : goal.returns-in-Ok-Ok-bounds-clause-read
@@ -89,19 +78,7 @@ returns-in-Ok-Ok-bounds-clause-range g c =
     let later = given_so (TablesSay seen (λ b. IsRunAt b c.args.space)) run c.in-Ok-Ok-bounds.field-0 c.in-Ok-Ok-bounds.field-0-is c.in-Ok-Ok-bounds.ensures.read in
     λ b revealed. later b (c.shown.ensures.asked.reaches.revealed b revealed)
 
--- ---- What was asked, and why it failed.
-
-pub returns-in-Err-bounds-clause-cause : goal.returns-in-Err-bounds-clause-cause
-returns-in-Err-bounds-clause-cause g c =
-    slot_halt (state c.args.core.now) (state c.shown.new.core) (accepted c.args.core.now.filer) c.args.space c.shown.ensures.asked.reaches (state c.bounds.new.core) c.in-Err-bounds.halt c.in-Err-bounds.ensures.cause
-
 -- ---- The tables are revealed.
-
-pub returns-in-Err-clause-right : goal.returns-in-Err-clause-right
-returns-in-Err-clause-right g c = λ s. c.in-Err.ensures.right s.0 s.1
-
-pub returns-in-Err-bounds-clause-right : goal.returns-in-Err-bounds-clause-right
-returns-in-Err-bounds-clause-right g c = λ s. c.in-Err-bounds.ensures.right s.0 (c.shown.ensures.sees s.0 s.1)
 
 pub returns-in-Ok-Err-clause-seen : goal.returns-in-Ok-Err-clause-seen
 returns-in-Ok-Err-clause-seen g c = λ ss s. (shown_refused ss c.args.space c.in-Ok-Err.field-0 c.in-Ok-Err.word c.in-Ok-Err.field-0-is (c.in-Ok-Err.ensures.seen ss s), tt)
@@ -113,3 +90,14 @@ returns-in-Ok-Ok-bounds-clause-seen g c = λ ss s.
 pub returns-in-Ok-Err-bounds-clause-seen : goal.returns-in-Ok-Err-bounds-clause-seen
 returns-in-Ok-Err-bounds-clause-seen g c = λ ss s.
     absurd (window_lost ss c.args.space c.in-Ok-Ok.field-0 c.in-Ok-Ok.shows c.in-Ok-Ok.field-0-is (c.in-Ok-Ok.ensures.seen ss s) c.in-Ok-Err-bounds.field-0 (c.in-Ok-Err-bounds.ensures.seen ss (c.shown.ensures.sees ss s)) c.in-Ok-Err-bounds.word c.in-Ok-Err-bounds.field-0-is)
+
+-- ---- Why it failed.
+
+pub returns-in-Err-clause-fails : goal.returns-in-Err-clause-fails
+returns-in-Err-clause-fails g c = halts_reached c.requires.size c.shown.ensures.asked.reaches.goes.makes (Err c.in-Err.halt) c.in-Err.ensures.cause c.in-Err.ensures.right
+
+pub returns-in-Err-bounds-clause-fails : goal.returns-in-Err-bounds-clause-fails
+returns-in-Err-bounds-clause-fails g c =
+    let looks = looks_asked c.requires.size c.shown.ensures.asked c.shown.ensures.sees in
+    let fails = halts_at (looks_fits looks c.requires.size) c.bounds.ensures.asked.reaches.goes.makes c.in-Err-bounds.halt c.in-Err-bounds.ensures.cause c.in-Err-bounds.ensures.right in
+    halts_after looks fails (slot_halt (state c.args.core.now) (state c.shown.new.core) (accepted c.args.core.now.filer) c.args.space c.shown.ensures.asked.reaches (state c.bounds.new.core) c.in-Err-bounds.halt c.in-Err-bounds.ensures.cause)
