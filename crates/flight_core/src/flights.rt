@@ -159,10 +159,12 @@ impl<S: Stepped> Flights<S> {
             × NeverBlames client self.old.begun self.old.waiting.items self.new.begun self.new.waiting.items }
         ensures led { S.led self.old.stepped (Tries call.now) self.new.stepped }
     {
-        match self.stepped.try_step(call)? {
-            Tried::Reply(reply) => Ok(Revealed::Answered(reply)),
-            Tried::Absent(page) => Ok(Revealed::Waits(self.join(client, call, page))),
-        }
+        let page = match self.stepped.try_step(call) {
+            Ok(Tried::Reply(reply)) => return Ok(Revealed::Answered(reply)),
+            Ok(Tried::Absent(page)) => page,
+            Err(halt) => return Err(halt),
+        };
+        Ok(Revealed::Waits(self.join(client, call, page)))
     }
 
     // Lets a client wait for a page, in the flight that is in the air for it or in a new one.

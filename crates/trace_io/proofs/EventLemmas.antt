@@ -1,16 +1,18 @@
 -- The fields of an event, and that what is asked is in form.
-use Rattle.std.proofs.Common.{◌≡◌, ℕ, ◌<◌, ◌≤◌, Bool, true, false, cond, nat_le, List, [], ◌∷◌, length, Option, Some, None, refl, sym, ap, ◌∙◌, subst, arith}
-use Rattle.std.specs.Prelude.{◌&&◌, codes, if◌then◌else◌}
+use Rattle.std.proofs.Common.{◌≡◌, inl, inr, ℕ, ◌<◌, ◌≤◌, Bool, true, false, cond, nat_le, List, [], ◌∷◌, length, Option, Some, None, refl, sym, ap, ◌∙◌, subst, arith}
+use Rattle.std.specs.Prelude.{◌&&◌, codes, if◌then◌else◌, IfNone, IfSome}
+use Rattle.std.specs.Borrow.{Bor}
 use Rattle.std.specs.Str.{bytes_eq}
 use Rattle.flat_machine.specs.After.{ends_trace}
 use Rattle.flat_machine.specs.Form.{IsInForm}
 use Rattle.flat_machine.specs.declared.call.Call.{Call}
-use Rattle.trace_io.specs.Grammar.{◌>>=◌, both, number_of, nothing, words_of, call_of_words}
-use Rattle.trace_io.specs.EventGrammar.{Ask, Done, Close, Halt, client_of, unending_of, client_and_call, only_flight, asked, landed, closed, halted, event_of_words, event_of}
+use Rattle.trace_io.specs.Grammar.{◌>>=◌, both, number_of, nothing, words_of, call_of, call_of_words}
+use Rattle.trace_io.specs.EventGrammar.{EventLine, Ask, Done, Close, Halt, AsksFor, AsksNothing, client_of, unending_of, client_and_call, only_flight, asked, landed, closed, halted, event_of_words, event_of}
 use Rattle.trace_io.specs.Events.{event_at, GivesEventForm}
 use Rattle.trace_io.specs.declared.event.Event.{Event}
+use Rattle.trace_io.specs.declared.event.Event.TheVariants as event
 use Rattle.trace_io.proofs.WordLemmas.{words_some}
-use Rattle.trace_io.proofs.LongLines.{some_same, then_some, cond_some, both-some}
+use Rattle.trace_io.proofs.LongLines.{cases_bool, some_same, then_some, cond_some, both-some}
 use Rattle.trace_io.proofs.Form.{words-form}
 
 -- a flight is the only word
@@ -114,12 +116,71 @@ pub event_of-long : (line : List ℕ) → 255 < length line → None ≡ event_o
 unfolding event_of
 event_of-long line long = let past : nat_le (length line) 255 ≡ false = grind arith in rw past refl
 
--- a line that begins with `on` and a space
-pub event_of-asked : (line text : List ℕ) → length line ≤ 255 → words_of line ≡ codes "on" ∷ words_of text → event_of line ≡ asked (words_of text)
-unfolding event_of_words
-event_of-asked line text short words = event_of-short line short ∙ ap event_of_words words
+-- Who asks, and for what.
 
--- a line of the word `on` alone
-pub event_of-alone : (line word : List ℕ) → words_of line ≡ word ∷ [] → bytes_eq word (codes "on") ≡ true → None ≡ event_of_words (words_of line)
-unfolding event_of_words client_and_call
-event_of-alone line word words test = rw (words, test) refl
+-- the event of a client and what its line says, if that is a call
+abbrev asking_item : ℕ → Option Call → Option EventLine
+asking_item client None = None
+asking_item client (Some c) = if ends_trace c then None else Some (Ask client c)
+
+item_asked : (client : ℕ) (o : Option Call) → both (Some client) (o >>= (λ c. if ends_trace c then None else Some c)) >>= (λ f. Some (Ask f.0 f.1)) ≡ asking_item client o
+item_asked client None = refl
+item_asked client (Some c) =
+    elim (cases_bool (ends_trace c)) [
+      | inl ends ↦ rw ends refl
+      | inr more ↦ rw more refl
+    ]
+
+asked_of : (client : ℕ) (o : Option Call) (rest : List ℕ) (fields : List (List ℕ)) → client_and_call fields ≡ both (Some client) (unending_of (words_of rest)) → call_of rest ≡ o → asked fields ≡ asking_item client o
+unfolding unending_of
+asked_of client o rest fields asks says =
+    ap (λ (f : Option (ℕ × Call)). f >>= (λ f. Some (Ask f.0 f.1))) asks
+    ∙ ap (λ (k : Option Call). both (Some client) (k >>= (λ c. if ends_trace c then None else Some c)) >>= (λ f. Some (Ask f.0 f.1))) says
+    ∙ item_asked client o
+
+module _ (line rest : List ℕ) (client : ℕ) (short : length line ≤ 255) (asks : AsksFor line client rest) where
+  event_of-asked : (o : Option Call) → call_of rest ≡ o → event_of line ≡ asking_item client o
+  unfolding event_of_words
+  event_of-asked o says = event_of-short line short ∙ rw (asks.2, asks.3) (asked_of client o rest asks.1 asks.4 says)
+
+  pub asks_no_call : call_of rest ≡ None → event.Bad ≡ event_at (event_of line)
+  asks_no_call says = ap event_at (sym (event_of-asked None says))
+
+  pub asks_an_end : (c : Call) → call_of rest ≡ Some c → ends_trace c ≡ true → event.Bad ≡ event_at (event_of line)
+  asks_an_end c says ends =
+      let none : asking_item client (Some c) ≡ None = rw ends refl in
+      ap event_at (sym (event_of-asked (Some c) says ∙ none))
+
+  pub asks_a_call : (c : Call) → call_of rest ≡ Some c → ends_trace c ≡ false → event.Ask client c ≡ event_at (event_of line)
+  asks_a_call c says more =
+      let some : asking_item client (Some c) ≡ Some (Ask client c) = rw more refl in
+      ap event_at (sym (event_of-asked (Some c) says ∙ some))
+
+-- the word `on` alone, or with what asks for no call, is no event
+pub event_of-nothing : (line word : List ℕ) (fields : List (List ℕ)) → words_of line ≡ word ∷ fields → bytes_eq word (codes "on") ≡ true → client_and_call fields ≡ None → None ≡ event_of_words (words_of line)
+unfolding event_of_words
+event_of-nothing line word fields words test none = rw (words, test, none) refl
+
+-- why no client asks: the first word is another, there is none after it, or what follows does not say so
+pub asks_nothing : (line word : List ℕ) (fields : List (List ℕ)) → words_of line ≡ word ∷ fields → (bytes_eq word (codes "on") ≡ true → client_and_call fields ≡ None) → AsksNothing line
+asks_nothing line word fields words none other more same test =
+    let heads : (other ≡ word) × (more ≡ fields) = (cc (words, same), cc (words, same)) in
+    subst (λ (fs : List (List ℕ)). client_and_call fs ≡ None) (sym heads.1) (none (ap (λ (w : List ℕ). bytes_eq w (codes "on")) (sym heads.0) ∙ test))
+
+none_alone : client_and_call [] ≡ None
+unfolding client_and_call
+none_alone = refl
+
+pub asks_alone : (line word : List ℕ) → words_of line ≡ word ∷ [] → AsksNothing line
+asks_alone line word words = asks_nothing line word [] words (λ test. none_alone)
+
+-- by what follows the word
+module _ (line word text : List ℕ) (words : words_of line ≡ word ∷ words_of text) where
+  pub asks_by : (o : Option (ℕ × Bor (List ℕ))) → bytes_eq word (codes "on") ≡ true
+      → IfSome o (λ p. client_and_call (words_of text) ≡ both (Some p.0) (unending_of (words_of p.1.now))) → IfSome o (λ p. AsksFor line p.0 p.1.now)
+  asks_by None test asks = tt
+  asks_by (Some p) test asks = (word, words_of text, words, test, asks)
+
+  pub asks_none_by : (o : Option (ℕ × Bor (List ℕ))) → IfNone o (client_and_call (words_of text) ≡ None) → IfNone o (AsksNothing line)
+  asks_none_by None none = asks_nothing line word (words_of text) words (λ test. none)
+  asks_none_by (Some p) none = tt

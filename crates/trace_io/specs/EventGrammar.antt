@@ -1,5 +1,5 @@
 -- What a line of events says, by its words.
-use Rattle.std.specs.Prelude.{ℕ, ◌^◌, ◌&&◌, Bool, false, true, nat_lt, nat_le, if◌then◌else◌, List, [], ◌∷◌, length, codes, Option, Some, None}
+use Rattle.std.specs.Prelude.{◌≡◌, ℕ, ◌^◌, ◌&&◌, Bool, false, true, nat_lt, nat_le, if◌then◌else◌, List, [], ◌∷◌, length, codes, Option, Some, None}
 use Rattle.std.specs.Str.{bytes_eq}
 use Rattle.std.specs.Str.Parse.{digits_value}
 use Rattle.flat_machine.specs.After.{ends_trace}
@@ -76,6 +76,15 @@ event_of_words (word ∷ fields) =
 -- the event of a line, if it is one: it has at most 255 bytes
 unfoldable pub event_of : List ℕ → Option EventLine
 event_of line = if nat_le (length line) 255 then event_of_words (words_of line) else None
+
+-- a client asks by the line for the call of the other one
+abbrev pub AsksFor : List ℕ → ℕ → List ℕ → Type 0
+AsksFor line client rest = (word : List ℕ) × (fields : List (List ℕ)) × (words_of line ≡ word ∷ fields) × (bytes_eq word (codes "on") ≡ true)
+    × (client_and_call fields ≡ both (Some client) (unending_of (words_of rest)))
+
+-- no client asks by the line for any call, though its first word be `on`
+abbrev pub AsksNothing : List ℕ → Type 0
+AsksNothing line = (word : List ℕ) (fields : List (List ℕ)) → words_of line ≡ word ∷ fields → bytes_eq word (codes "on") ≡ true → client_and_call fields ≡ None
 
 -- whether a line is the last that is read
 abbrev pub is_last_event : Option EventLine → Bool

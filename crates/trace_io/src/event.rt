@@ -1,11 +1,12 @@
 //! What a line of events says.
-ghost use Rattle.std.specs.Prelude.{◌≡◌, ◌≤◌, ◌∷◌, IfSome, codes, length};
+ghost use Rattle.std.specs.Prelude.{◌≡◌, ◌≤◌, ◌∷◌, IfNone, IfSome, codes, length};
 ghost use Rattle.trace_io.specs.Grammar.{words_of};
-ghost use Rattle.trace_io.specs.EventGrammar.{event_of, event_of_words, asked, landed, closed, halted};
+ghost use Rattle.trace_io.specs.EventGrammar.{event_of, event_of_words, landed, closed, halted, AsksFor, AsksNothing};
 ghost use Rattle.trace_io.specs.Events.{event_at};
 ghost use Rattle.trace_io.specs.Words.{rest_words};
 
-use crate::event_fields::{client_and_line, only_flight, unending};
+use crate::calls::call_of;
+use crate::event_fields::{client_and_line, ends_session, only_flight, plain_client};
 use crate::fields::nothing;
 use crate::words::cut;
 use flat_machine::Call;
@@ -30,19 +31,6 @@ pub enum Event {
     ReadFault,
     /// As many bytes as the limit were taken, and a further one is needed.
     Long,
-}
-
-// What a client asks for, by what stands after `on` and a space.
-fn ask_in(text: &[u8]) -> Event
-    ensures { result ≡ event_at (asked (words_of text.now)) }
-{
-    let Some((client, line)) = client_and_line(text) else {
-        return Event::Bad;
-    };
-    match unending(line) {
-        Some(call) => Event::Ask { client, call },
-        None => Event::Bad,
-    }
 }
 
 fn done_in(rest: Option<&[u8]>) -> Event
@@ -72,17 +60,15 @@ fn halt_in(rest: Option<&[u8]>) -> Event
     }
 }
 
-// What the words of a line say.
+// What a line says by which no client asks.
 #[tactic(auto, unfolding(crate::specs::EventGrammar::event_of_words))]
-fn event_by_words(line: &[u8]) -> Event
+fn other_event(line: &[u8]) -> Event
+    requires { AsksNothing line.now }
     ensures { result ≡ event_at (event_of_words (words_of line.now)) }
 {
     let (word, rest) = cut(line);
     if word == b"on".as_slice() {
-        return match rest {
-            Some(text) => ask_in(text),
-            None => Event::Bad,
-        };
+        return Event::Bad;
     }
     if word == b"done".as_slice() {
         return done_in(rest);
@@ -96,6 +82,21 @@ fn event_by_words(line: &[u8]) -> Event
     Event::Bad
 }
 
+// Which client asks by a line, and the line of its call, by the words.
+fn asking_by_words(line: &[u8]) -> Option<(u8, &[u8])>
+    ensures some { IfSome result (λ p. AsksFor line.now p.0 p.1.now) }
+    ensures none { IfNone result (AsksNothing line.now) }
+{
+    let (word, rest) = cut(line);
+    if word == b"on".as_slice() {
+        return match rest {
+            Some(text) => client_and_line(text),
+            None => None,
+        };
+    }
+    None
+}
+
 // What stands after `on` and a space, where a line begins so.
 fn text_of_asking(line: &[u8]) -> Option<&[u8]>
     ensures { IfSome result (λ rest. words_of line.now ≡ codes "on" ∷ words_of rest.now) }
@@ -106,13 +107,33 @@ fn text_of_asking(line: &[u8]) -> Option<&[u8]>
     None
 }
 
-// What a line says that is not too long. Where it begins with `on` and a space, no word is cut for that.
+// Which client asks by a line, and the line of its call. Where they must stand, `on` and a client are looked for
+// before words are cut.
+fn asking(line: &[u8]) -> Option<(u8, &[u8])>
+    ensures some { IfSome result (λ p. AsksFor line.now p.0 p.1.now) }
+    ensures none { IfNone result (AsksNothing line.now) }
+{
+    if let Some(text) = text_of_asking(line) {
+        if let Some(found) = plain_client(text) {
+            return Some(found);
+        }
+    }
+    asking_by_words(line)
+}
+
+// What a line says that is not too long. The call is read in one place, so that the event is put together once.
 pub(crate) fn event_in(line: &[u8]) -> Event
     requires { length line.now ≤ 255 }
     ensures { result ≡ event_at (event_of line.now) }
 {
-    match text_of_asking(line) {
-        Some(text) => ask_in(text),
-        None => event_by_words(line),
+    let Some((client, rest)) = asking(line) else {
+        return other_event(line);
+    };
+    let Some(call) = call_of(rest) else {
+        return Event::Bad;
+    };
+    if ends_session(&call) {
+        return Event::Bad;
     }
+    Event::Ask { client, call }
 }

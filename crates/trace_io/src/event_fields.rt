@@ -2,11 +2,11 @@
 ghost use Rattle.std.specs.Prelude.{◌≡◌, if◌then◌else◌, IfNone, IfSome, None, Some};
 ghost use Rattle.std.specs.List.{list_all};
 ghost use Rattle.std.specs.Char.{is_ascii_digit};
+ghost use Rattle.flat_machine.specs.After.{ends_trace};
 ghost use Rattle.trace_io.specs.Grammar.{both, words_of};
 ghost use Rattle.trace_io.specs.EventGrammar.{wide_value_of, flight_of, client_of, unending_of, client_and_call, only_flight};
 ghost use Rattle.trace_io.specs.Words.{rest_words};
 
-use crate::calls::call_of;
 use crate::words::{cut, number, split_word};
 use flat_machine::Call;
 
@@ -48,20 +48,15 @@ fn client(word: &[u8]) -> Option<u8>
     Some(n as u8)
 }
 
-// The call of a line, if it does not end the session.
-#[tactic(auto, unfolding(crate::specs::EventGrammar::unending_of))]
-pub(crate) fn unending(line: &[u8]) -> Option<Call>
-    ensures { result ≡ unending_of (words_of line.now) }
+// Whether a call ends the session.
+pub(crate) fn ends_session(call: &Call) -> bool
+    ensures { result ≡ ends_trace call.now }
 {
-    let call = call_of(line)?;
-    if matches!(call, Call::Close | Call::Halt) {
-        return None;
-    }
-    Some(call)
+    matches!(call, Call::Close | Call::Halt)
 }
 
 // A client and the line of its call, where a text begins with a client and a space.
-fn plain_client(text: &[u8]) -> Option<(u8, &[u8])>
+pub(crate) fn plain_client(text: &[u8]) -> Option<(u8, &[u8])>
     ensures { IfSome result
         (λ p. client_and_call (words_of text.now) ≡ both (Some p.0) (unending_of (words_of p.1.now))) }
 {
@@ -74,16 +69,13 @@ fn plain_client(text: &[u8]) -> Option<(u8, &[u8])>
     None
 }
 
-// A client and the line of its call. A client is looked for where one must stand, before words are cut.
+// A client and the line of its call.
 #[tactic(auto, unfolding(crate::specs::EventGrammar::client_and_call))]
 pub(crate) fn client_and_line(text: &[u8]) -> Option<(u8, &[u8])>
     ensures some { IfSome result
         (λ p. client_and_call (words_of text.now) ≡ both (Some p.0) (unending_of (words_of p.1.now))) }
     ensures none { IfNone result (client_and_call (words_of text.now) ≡ None) }
 {
-    if let Some(found) = plain_client(text) {
-        return Some(found);
-    }
     let (first, line) = split_word(text)?;
     Some((client(first)?, line))
 }
