@@ -79,10 +79,10 @@ later d first next s k e few = (
 pub cut_laws : CutLaws
 cut_laws = record { settled = settled; crash_states = crash_states; wider = wider; later = later }
 
-between_long : (s k : ℕ) (writes : List DiskWrite) → length (between s k writes) ≡ length (take k writes) - s
+pub between_long : (s k : ℕ) (writes : List DiskWrite) → length (between s k writes) ≡ length (take k writes) - s
 between_long s k writes = length-drop s (take k writes)
 
-crash_state-between : (d : List Sector) (writes : List DiskWrite) (s k j : ℕ) → s + j ≤ k → crash_state (crash_state d writes s) (between s k writes) j ≡ crash_state d writes (s + j)
+pub crash_state-between : (d : List Sector) (writes : List DiskWrite) (s k j : ℕ) → s + j ≤ k → crash_state (crash_state d writes s) (between s k writes) j ≡ crash_state d writes (s + j)
 crash_state-between d writes s k j low =
     ap (λ (e : List Sector). crash_state e (between s k writes) j) (sym (crash_state-take d writes k s (omega (arith, low))))
     ∙ crash_state-then d (take k writes) s j ∙ crash_state-take d writes k (s + j) low

@@ -14,7 +14,16 @@ pub mod HonestLemmas
 pub mod OwnLemmas
 mod NumberLemmas
 pub mod SizeLemmas
+pub mod ThereLemmas
 pub mod CommonLemmas
+mod FirstLabelLemmas
+pub mod ResizedLemmas
+mod OneCrashStateLemmas
+mod MarkedFirstLemmas
+mod ApartLemmas
+mod LeaderWriteLemmas
+mod LabelsApartLemmas
+mod ApartRowLemmas
 pub mod WholeLemmas
 mod WholeWriteLemmas
 mod ResizeLemmas

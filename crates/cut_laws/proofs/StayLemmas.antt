@@ -38,7 +38,7 @@ none_each d (w ∷ ws) id none (suc k) write here = none_each (written w d) ws i
 abbrev pub Of : ℕ → Label → Bool
 Of id l = is_of id (l, [])
 
-free_fails : (id : ℕ) (l : Label) → is_free l ≡ true → Of id l ≡ false
+pub free_fails : (id : ℕ) (l : Label) → is_free l ≡ true → Of id l ≡ false
 free_fails id l free = ap (λ (b : Bool). b && eqb l.id id) (free_none l free)
 
 pub of_id : (id : ℕ) (s : Sector) → is_of id s ≡ true → s.0.id ≡ id

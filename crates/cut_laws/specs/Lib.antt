@@ -1,9 +1,13 @@
+pub mod ChangesApart
 pub mod Common
 pub mod Cut
 pub mod CutLaws
 pub mod Example
 pub mod Honest
+pub mod LabelsApart
+pub mod LeaderWrites
 pub mod Mixes
+pub mod OneCrashState
 pub mod OwnBytes
 pub mod OwnRuns
 pub mod ResizeLaws

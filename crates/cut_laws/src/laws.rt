@@ -2,11 +2,15 @@
 
 ghost use Rattle.std.specs.Prelude.{ℕ, Bool, List};
 ghost use Rattle.labelled_disk.specs.Syncing.{AreSyncs};
+ghost use Rattle.cut_laws.specs.ChangesApart.{ChangesApartAreOfOneCrashState};
 ghost use Rattle.cut_laws.specs.Common.{CommonStays};
 ghost use Rattle.cut_laws.specs.CutLaws.{CutLaws, WindowLaws};
 ghost use Rattle.cut_laws.specs.Example.{ExampleCuts};
 ghost use Rattle.cut_laws.specs.Honest.{CutsAreHonest};
+ghost use Rattle.cut_laws.specs.LabelsApart.{LabelsApartAreChangesApart, LabelsApartThen, PagesAreApart};
+ghost use Rattle.cut_laws.specs.LeaderWrites.{LeadersChangeByLabels};
 ghost use Rattle.cut_laws.specs.Mixes.{MixLaws};
+ghost use Rattle.cut_laws.specs.OneCrashState.{OneChangeIsOneCrashState, ResizedIsOfOneCrashState};
 ghost use Rattle.cut_laws.specs.OwnBytes.{OwnBytes};
 ghost use Rattle.cut_laws.specs.OwnRuns.{OwnRunLaws};
 ghost use Rattle.cut_laws.specs.ResizeLaws.{ResizedHasSizeBetween};
@@ -51,6 +55,26 @@ pub fn shapes_stay_in_cuts()
 /// A file that is whole in each crash state, with one shape, has it in a cut, and its pages stood there.
 pub fn common_stays_in_cuts()
     ensures { (with_temporary : Bool) → CommonStays with_temporary }
+{}
+
+/// Where one file alone changed since the last sync, in one of the forms in which calls change one, the files of a cut are
+/// those of one crash state. So is one file that is there throughout, whatever becomes of the others.
+pub fn one_change_is_of_one_crash_state()
+    ensures files { (with_temporary : Bool) → OneChangeIsOneCrashState with_temporary }
+    ensures one { (with_temporary : Bool) → ResizedIsOfOneCrashState with_temporary }
+{}
+
+/// Where a sync was made between each two changes of files, but those of one file's size, so are those of each cut.
+pub fn changes_apart_are_of_one_crash_state()
+    ensures { (with_temporary : Bool) → ChangesApartAreOfOneCrashState with_temporary }
+{}
+
+/// Which writes change which permanent files there are, and that syncs around their labels are syncs between changes.
+pub fn labels_apart_are_changes_apart()
+    ensures leaders { LeadersChangeByLabels }
+    ensures apart { LabelsApartAreChangesApart }
+    ensures rows { LabelsApartThen }
+    ensures pages { PagesAreApart }
 {}
 
 /// Sectors that no file needs are freed, and root and maps are written: each cut has the files.
