@@ -67,3 +67,4 @@ mod TryLemmas
 mod TriedLemmas
 mod SteppedLemmas
 mod StoreReadyLemmas
+mod SpaceSteps

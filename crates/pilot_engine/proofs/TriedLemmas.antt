@@ -16,7 +16,9 @@ use Rattle.flat_machine.specs.After.{ends_trace}
 use Rattle.flat_machine.specs.Machine.{Machine}
 use Rattle.flat_machine.specs.References.{is_reference}
 use Rattle.flat_machine.specs.Refusal.{refusal}
+use Rattle.flight_core.specs.declared.stepped.Tried.{Tried}
 use Rattle.flight_core.specs.Tried.{MayBeTried}
+use Rattle.file_manager.specs.Creating.{counted, next_id}
 use Rattle.file_manager.specs.Reasons.{InitialState}
 use Rattle.swapper_kernel.specs.Goes.{Makes, Pages}
 use Rattle.filer_kernel.specs.EvidenceLaws.{Fits}
@@ -31,9 +33,12 @@ use Rattle.running_words.specs.Stages.{Passes}
 use Rattle.pilot_engine.specs.declared.session.Session.{Session}
 use Rattle.pilot_engine.specs.Advised.{IsAdvised}
 use Rattle.pilot_engine.specs.Calls.{Accounts}
-use Rattle.pilot_engine.specs.Stepping.{StepHalts, brings_clients, waits}
-use Rattle.pilot_engine.specs.Trying.{TriesIn, TryHalts, replied_as, tried_as}
+use Rattle.pilot_engine.specs.Stepping.{StepHalts, brings_clients, waits, writes_leader}
+use Rattle.pilot_engine.specs.Trying.{TriesIn, TryHalts, WritesLabels, replied_as, tried_as}
+use Rattle.pilot_engine.proofs.LabelLemmas.{pages_alone}
+use Rattle.pilot_engine.proofs.SparedCalls.{spares_quiet}
 use Rattle.pilot_engine.proofs.TryLemmas.{quiet_next}
+use Rattle.pilot_engine.proofs.WritingLemmas.{allowed_asked}
 
 -- a call that brings in no page of a client's file is neither a load nor a store
 pub no_reference : (c : Call) → brings_clients c ≡ false → is_reference c ≡ false
@@ -112,3 +117,13 @@ module _ {D A : Type 0} {G : Ghosts D} where
     cost = cost;
   }
   replied_in m c old new (Err e) more plain runs carried sound passes came advised forced cost = record { tried = tt; quiet = tt; sound = sound; passes = passes; came = tt; advised = λ quiet free. tt; forced = λ one free. tt; cost = cost }
+
+  -- a call that finds pages alone writes no label
+  pub labels_quiet : (c : Call) (old new : Session D A G) (r : Result Tried Halt) {pages : Pages} → writes_leader c ≡ false
+      → Makes pages [] (state old.core).disk (state old.core).slots (state new.core).disk (state new.core).slots → WritesLabels c old r new
+  labels_quiet c old new r plain makes = record {
+    own = allowed_asked r (next_id old.volume.root) (counted old.volume.root) new.volume.root c makes;
+    spares = λ id client other fresh. spares_quiet makes id client;
+    around = λ leads. absurd (true≢false (sym leads ∙ plain));
+    unlabelled = λ keeps. pages_alone makes;
+  }

@@ -1,22 +1,24 @@
 -- What every call of a client does to a session, whatever the call.
-use Rattle.std.specs.Prelude.{◌≡◌, ◌≢◌, ◌≤◌, ℕ, false, Some, IfOk, IfErr, OnOk, MatchResult, Result}
+use Rattle.std.specs.Prelude.{◌≡◌, ◌≢◌, ◌≤◌, ℕ, true, false, Some, IfOk, IfErr, OnOk, MatchResult, Result}
 use Rattle.labelled_disk.specs.declared.disk.Disk.{Ghosts}
 use Rattle.labelled_disk.specs.declared.evidence.Halt.{Halt}
 use Rattle.labelled_disk.specs.declared.evidence.Halt.TheVariants as halt
 use Rattle.flat_machine.specs.declared.call.Call.{Call}
 use Rattle.flat_machine.specs.declared.call.Reply.{Reply}
 use Rattle.flat_machine.specs.Machine.{Machine}
+use Rattle.labelled_disk.specs.File.{File, file_at}
 use Rattle.fault_core.specs.Core.{state}
 use Rattle.fault_core.specs.Reach.{BringsOwn}
 use Rattle.file_manager.specs.Creating.{next_id}
 use Rattle.file_manager.specs.Reasons.{InitialState, KeepsOn, ShowsReason}
+use Rattle.file_manager.specs.Synced.{LabelsAfterSync}
 use Rattle.running_words.specs.Bound.{CostsOther}
 use Rattle.running_words.specs.Running.{Carried}
 use Rattle.running_words.specs.Session.{IsOpen}
 use Rattle.running_words.specs.Stages.{Passes}
 use Rattle.pilot_engine.specs.declared.session.Session.{Session}
 use Rattle.pilot_engine.specs.Sparing.{Spares}
-use Rattle.pilot_engine.specs.Stepping.{brings_clients, relabels}
+use Rattle.pilot_engine.specs.Stepping.{brings_clients, relabels, resizes}
 use Rattle.pilot_engine.specs.Reasons.{IsBlameless, NeverBlamesEnd, SeesHome}
 
 module _ {D A : Type 0} {G : Ghosts D} where
@@ -54,3 +56,8 @@ module _ {D A : Type 0} {G : Ghosts D} where
   -- its identifier.
   abbrev pub SparesOthers : Call → Session D A G → Session D A G → Type 0
   SparesOthers call old new = (id : ℕ) → 16 ≤ id → relabels call ≢ Some id → next_id old.volume.root ≢ id → Spares id (state old.core).disk (state new.core).disk
+
+  -- Where the call gives a permanent file another size, each label that it writes comes after a sync of the call.
+  abbrev pub ResizesAfterSync : Machine → Call → Session D A G → Session D A G → Type 0
+  ResizesAfterSync m call old new = (id : ℕ) (f : File) → resizes call ≡ Some id → file_at m.files id ≡ Some f → f.permanent ≡ true
+      → LabelsAfterSync (state old.core).disk (state new.core).disk

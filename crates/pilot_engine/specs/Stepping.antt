@@ -59,6 +59,11 @@ relabels (call.MakePermanent id) = Some id
 relabels (call.MakeImmutable id) = Some id
 relabels other = None
 
+-- the file that a call gives another size
+abbrev pub resizes : Call → Option ℕ
+resizes (call.SetSize id pages) = Some id
+resizes other = None
+
 -- calls that mark a file's leader, or free it
 abbrev pub writes_leader : Call → Bool
 writes_leader (call.Delete id) = true

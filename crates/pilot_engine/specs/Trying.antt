@@ -96,7 +96,8 @@ module _ {D A : Type 0} {G : Ghosts D} where
     pub stay : is_reference call ≡ true → PagesStayOrYield (state old.core).slots (state new.core).slots
     pub stays : Stays old new
 
-  -- Of a call that brings in no page of a client's file when it is carried out: labels are written as then. It writes what it may, other files are spared, a leader's is written between two waits for the medium, and a call that changes no file writes pages alone.
+  -- Of every session, over any contents, labels are written as by a call that brings in what it needs. It writes what it may, other files are
+  -- spared, a leader's is written between two waits for the medium, and a call that changes no file, as a load or a store, writes pages alone.
   pub record WritesLabels (call : Call) (old : Session D A G) (result : Result Tried Halt) (new : Session D A G) : Type 0 where
     pub own : WritesAllowed call old new result
     pub spares : SparesOthers call old new

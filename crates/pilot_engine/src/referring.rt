@@ -1,9 +1,11 @@
 //! Bytes that are loaded and stored in place, up to a page at once.
-ghost use Rattle.std.specs.Prelude.{◌≡◌, ◌≢◌, ℕ, ◌+◌, ◌%◌, ◌<◌, ◌≤◌, length, slice_get, IfOk, OnErr};
+ghost use Rattle.std.specs.Prelude.{◌≡◌, ◌≢◌, ℕ, ◌+◌, ◌%◌, ◌<◌, ◌≤◌, false, length, slice_get, IfOk, OnErr};
 ghost use Rattle.flat_machine.specs.declared.call.Call.TheVariants as call;
 ghost use Rattle.flat_machine.specs.declared.call.Reply.TheVariants as reply;
 ghost use Rattle.flat_machine.specs.Machine.{Machine};
 ghost use Rattle.file_manager.specs.Reasons.{InitialState, KeepsOn};
+ghost use Rattle.fault_core.specs.Core.{kept, state};
+ghost use Rattle.fault_core.specs.Ready.{IsAtHand};
 ghost use Rattle.fault_core.specs.declared.reference.Access.TheVariants as access;
 ghost use Rattle.running_words.specs.Running.{Runs};
 ghost use Rattle.pilot_engine.specs.Calls.{Accounts};
@@ -38,13 +40,16 @@ impl<D: Disk, A: Allocator> Session<D, A> {
     }
 
     /// Loads the first of these bytes, page by page, as far as their pages are ready and in the swap unit of the first one,
-    /// and says how many. Nothing but these bytes changes.
+    /// and says how many: at least one, where the first is. Nothing but these bytes changes.
     pub fn load_ready(&mut self, address: u32, into: &mut [u8]) -> usize
         requires taken { TakesCalls self.old }
         ensures machine { (m : Machine) → Runs self.old.core self.old.volume m
             → AreReplied m address result into.new }
         ensures part { result ≤ length into.old }
         ensures ends { 1 ≤ result → result < length into.old → (address + result) % 512 ≡ 0 }
+        ensures first { (m : Machine) (slot : ℕ) → Runs self.old.core self.old.volume m
+            → IsAtHand (kept self.old.core) (state self.old.core).slots false address 1 slot
+            → 1 ≤ length into.old → 1 ≤ result }
         ensures rest { (k : ℕ) → result ≤ k → slice_get into.new k ≡ slice_get into.old k }
         ensures width { length into.new ≡ length into.old }
         ensures same { self.new ≡ self.old }

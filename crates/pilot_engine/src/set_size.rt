@@ -1,6 +1,7 @@
 //! Files that get another size.
-ghost use Rattle.std.specs.Prelude.{◌≡◌, ◌+◌, ◌-◌, ◌*◌, ◌<◌, ◌≤◌, ◌&&◌, nat_le, IfOk, IfErr, Err, None, OnOk};
+ghost use Rattle.std.specs.Prelude.{◌≡◌, ◌+◌, ◌-◌, ◌*◌, ◌<◌, ◌≤◌, ◌&&◌, true, nat_le, IfOk, IfErr, Err, None, OnOk, Some};
 ghost use Rattle.labelled_disk.specs.Calls.{Rose};
+ghost use Rattle.labelled_disk.specs.File.{File, file_at};
 ghost use Rattle.labelled_disk.specs.Label.{is_file_id};
 ghost use Rattle.labelled_disk.specs.declared.evidence.Halt.TheVariants as halt;
 ghost use Rattle.filer_kernel.specs.Evidence.{ShowsEvidence};
@@ -19,6 +20,7 @@ ghost use Rattle.pilot_engine.specs.Seen.{CostsInside, IsSeenBy};
 ghost use Rattle.space_calls.specs.Halts.{OnFileHalts, OnNamedHalts};
 ghost use Rattle.pilot_engine.specs.Halting.{SizeHalts};
 ghost use Rattle.file_manager.specs.Reasons.{KeepsOn, InitialState};
+ghost use Rattle.file_manager.specs.Synced.{LabelsAfterSync};
 ghost use Rattle.filer_kernel.specs.View.{FitsLayout};
 ghost use Rattle.pilot_engine.specs.Showing.{KeepsWindows};
 ghost use Rattle.pilot_engine.specs.Calls.{Accounts, Answers, Stays};
@@ -104,6 +106,11 @@ impl<D: Disk, A: Allocator> Session<D, A> {
             → CostsInside (state self.old.core).disk (state self.new.core).disk }
         ensures own { Written (FileMay (call.SetSize id pages)) (state self.old.core).disk (state self.new.core).disk }
         ensures spares { SparesBut id (state self.old.core).disk (state self.new.core).disk }
+        ensures after_sync { (spaces_of : TablesMeaning) (m : Machine) (f : File)
+            → IsSession spaces_of (state self.old.core).disk (state self.old.core).slots (state self.old.core).layout
+            (state self.old.core).runs self.old.volume m
+            → file_at m.files id ≡ Some f → f.permanent ≡ true
+            → LabelsAfterSync (state self.old.core).disk (state self.new.core).disk }
     {
         if !may_be_file(id) {
             return Ok(Reply::Refused(Refusal::File));
@@ -148,6 +155,9 @@ impl<D: Disk, A: Allocator> Session<D, A> {
         ensures running { self.new.running ≡ self.old.running }
         ensures own { Written (FileMay (call.SetSize id pages)) (state self.old.core).disk (state self.new.core).disk }
         ensures spares { SparesBut id (state self.old.core).disk (state self.new.core).disk }
+        ensures after_sync { (m : Machine) (f : File) → Runs self.old.core self.old.volume m
+            → file_at m.files id ≡ Some f → f.permanent ≡ true
+            → LabelsAfterSync (state self.old.core).disk (state self.new.core).disk }
     {
         match self.sight(id) {
             Ok(Sight::Hidden) => Ok(Reply::Refused(Refusal::File)),

@@ -19,7 +19,7 @@ ghost use Rattle.file_manager.specs.Reasons.{KeepsOn, InitialState, IsNotOlder, 
 ghost use Rattle.fault_core.specs.Lack.{MissesPage, Sees};
 ghost use Rattle.flat_machine.specs.declared.space.Space.{Space};
 ghost use Rattle.filer_kernel.specs.View.{FitsLayout};
-ghost use Rattle.pilot_engine.specs.Calls.{Accounts, Answers, SparesOthers, Stays};
+ghost use Rattle.pilot_engine.specs.Calls.{Accounts, Answers, ResizesAfterSync, SparesOthers, Stays};
 ghost use Rattle.pilot_engine.specs.Writing.{WritesAllowed};
 ghost use Rattle.pilot_engine.specs.Showing.{DirtiesShown, ShowsMapped};
 ghost use Rattle.filer_kernel.specs.Fails.{Fails};
@@ -73,6 +73,8 @@ impl<D: Disk, A: Allocator> Session<D, A> {
         ensures spares { SparesOthers call.now self.old self.new }
         ensures around { writes_leader call.now ≡ true
             → SyncsLeaders result (state self.old.core).disk (state self.new.core).disk }
+        ensures resizes { (m : Machine) → Runs self.old.core self.old.volume m
+            → ResizesAfterSync m call.now self.old self.new }
         ensures unlabelled { keeps_labels call.now ≡ true
             → WritesPagesAlone (state self.old.core).disk (state self.new.core).disk }
         ensures idle { (m : Machine) → Runs self.old.core self.old.volume m
@@ -118,6 +120,8 @@ impl<D: Disk, A: Allocator> Session<D, A> {
         ensures spares { SparesOthers call.now self.old self.new }
         ensures around { writes_leader call.now ≡ true
             → SyncsLeaders result (state self.old.core).disk (state self.new.core).disk }
+        ensures resizes { (m : Machine) → Runs self.old.core self.old.volume m
+            → ResizesAfterSync m call.now self.old self.new }
         ensures unlabelled { keeps_labels call.now ≡ true
             → WritesPagesAlone (state self.old.core).disk (state self.new.core).disk }
         ensures idle { (m : Machine) → Runs self.old.core self.old.volume m

@@ -12,7 +12,6 @@ ghost use Rattle.fault_core.specs.Core.{state};
 ghost use Rattle.running_words.specs.Running.{Runs};
 ghost use Rattle.running_words.specs.Session.{IsOpen};
 ghost use Rattle.pilot_engine.specs.Calls.{Accounts};
-ghost use Rattle.pilot_engine.specs.Stepping.{brings_clients};
 ghost use Rattle.pilot_engine.specs.Trying.{Tries, TriesIn, WritesLabels, replied_as, tried_as};
 
 use crate::Session;
@@ -79,7 +78,7 @@ impl<D: Disk, A: Allocator> Session<D, A> {
         ensures accounts { (o : InitialState) → KeepsOn o self.old.core.filer → IsNotOlder o self.old.volume.root
             → Accounts o (giving o (next_id self.new.volume.root)) self.old self.new result }
         ensures tries { Tries call.now self.old result self.new }
-        ensures labels { brings_clients call.now ≡ false → WritesLabels call.now self.old result self.new }
+        ensures labels { WritesLabels call.now self.old result self.new }
         ensures goes_on { OnOk result (self.new.running ≡ true) }
         ensures halted { OnErr result (self.new.running ≡ false) }
     {
@@ -100,7 +99,7 @@ impl<D: Disk, A: Allocator> Session<D, A> {
         ensures accounts { (o : InitialState) → KeepsOn o self.old.core.filer → IsNotOlder o self.old.volume.root
             → Accounts o (giving o (next_id self.new.volume.root)) self.old self.new result }
         ensures tries { Tries call.now self.old result self.new }
-        ensures labels { brings_clients call.now ≡ false → WritesLabels call.now self.old result self.new }
+        ensures labels { WritesLabels call.now self.old result self.new }
         ensures running { self.new.running ≡ self.old.running }
     {
         match call {
@@ -122,6 +121,7 @@ impl<D: Disk, A: Allocator> Session<D, A> {
         ensures accounts { (o : InitialState) → KeepsOn o self.old.core.filer → IsNotOlder o self.old.volume.root
             → Accounts o (giving o (next_id self.new.volume.root)) self.old self.new result }
         ensures tries { Tries (calls.Load address count) self.old result self.new }
+        ensures labels { WritesLabels (calls.Load address count) self.old result self.new }
         ensures running { self.new.running ≡ self.old.running }
     {
         let mut room = [0; 64];
@@ -143,6 +143,7 @@ impl<D: Disk, A: Allocator> Session<D, A> {
         ensures accounts { (o : InitialState) → KeepsOn o self.old.core.filer → IsNotOlder o self.old.volume.root
             → Accounts o (giving o (next_id self.new.volume.root)) self.old self.new result }
         ensures tries { Tries (calls.Store address bytes.now) self.old result self.new }
+        ensures labels { WritesLabels (calls.Store address bytes.now) self.old result self.new }
         ensures running { self.new.running ≡ self.old.running }
     {
         match self.core.try_store(address, bytes) {
@@ -160,6 +161,7 @@ impl<D: Disk, A: Allocator> Session<D, A> {
         ensures accounts { (o : InitialState) → KeepsOn o self.old.core.filer → IsNotOlder o self.old.volume.root
             → Accounts o (giving o (next_id self.new.volume.root)) self.old self.new result }
         ensures tries { Tries (calls.Activate space) self.old result self.new }
+        ensures labels { WritesLabels (calls.Activate space) self.old result self.new }
         ensures running { self.new.running ≡ self.old.running }
     {
         replied(try_activate(&mut self.core, space))

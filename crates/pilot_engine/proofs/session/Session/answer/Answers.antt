@@ -1,8 +1,10 @@
-use Rattle.std.proofs.Common.{ℕ, Some, refl, sym, ap, ◌∙◌, arith, subst}
+use Rattle.std.proofs.Common.{◌≡◌, ℕ, Some, refl, sym, ap, ◌∙◌, arith, subst}
 use Rattle.std.proofs.lemmas.Bool.{true≢false}
+use Rattle.std.proofs.lemmas.Option.{same_Some}
+use Rattle.labelled_disk.specs.File.{file_at}
 use Rattle.flat_machine.specs.References.{is_reference}
 use Rattle.pilot_engine.specs.Labels.{keeps_labels}
-use Rattle.pilot_engine.specs.Stepping.{relabels, waits, IsResident, writes_leader}
+use Rattle.pilot_engine.specs.Stepping.{relabels, resizes, waits, IsResident, writes_leader}
 use Rattle.fault_core.specs.Core.{kept, state}
 use Rattle.swapper_kernel.specs.Goes.{no_page}
 use Rattle.file_manager.specs.Creating.{counted, next_id}
@@ -14,7 +16,7 @@ use Rattle.pilot_engine.proofs.LiftLemmas.{carried_out}
 use Rattle.pilot_engine.proofs.StepLemmas.{nothing_revealed, on_spaces}
 use Rattle.flat_machine.specs.declared.call.Call.{Call}
 use Rattle.flat_machine.specs.declared.call.Call.TheVariants as call
-use Rattle.pilot_engine.proofs.OwnLemmas.{around_other, no_leader}
+use Rattle.pilot_engine.proofs.OwnLemmas.{around_other, no_leader, no_resize, resizes_none}
 use Rattle.pilot_engine.proofs.WritingLemmas.{allowed_alone, allowed_call, allowed_named}
 use Rattle.pilot_engine.proofs.HomeSteps.{same_or_blameless}
 use Rattle.pilot_engine.proofs.LackLemmas.{fails_missing_page, mark_misses, named_misses, new_misses, on_named_misses, pages_of, remove_misses, size_misses}
@@ -505,3 +507,34 @@ returns-in-Next-clause-shown g c = λ ss s. rw c.in-Next.is c.next.ensures.wrote
 
 pub returns-in-Volume-clause-shown : goal.returns-in-Volume-clause-shown
 returns-in-Volume-clause-shown g c = λ ss s. rw c.in-Volume.is c.volume.ensures.wrote
+
+-- ---- The syncs before labels of pages.
+
+pub returns-in-Create-clause-resizes : goal.returns-in-Create-clause-resizes
+returns-in-Create-clause-resizes g c = λ m r id f is. resizes_none c.args.call.now id (ap resizes c.in-Create.is) is
+
+pub returns-in-Delete-clause-resizes : goal.returns-in-Delete-clause-resizes
+returns-in-Delete-clause-resizes g c = λ m r id f is. resizes_none c.args.call.now id (ap resizes c.in-Delete.is) is
+
+pub returns-in-Attributes-clause-resizes : goal.returns-in-Attributes-clause-resizes
+returns-in-Attributes-clause-resizes g c = λ m r id f is. resizes_none c.args.call.now id (ap resizes c.in-Attributes.is) is
+
+pub returns-in-MakePermanent-clause-resizes : goal.returns-in-MakePermanent-clause-resizes
+returns-in-MakePermanent-clause-resizes g c = λ m r id f is. resizes_none c.args.call.now id (ap resizes c.in-MakePermanent.is) is
+
+pub returns-in-MakeImmutable-clause-resizes : goal.returns-in-MakeImmutable-clause-resizes
+returns-in-MakeImmutable-clause-resizes g c = λ m r id f is. resizes_none c.args.call.now id (ap resizes c.in-MakeImmutable.is) is
+
+pub returns-in-Next-clause-resizes : goal.returns-in-Next-clause-resizes
+returns-in-Next-clause-resizes g c = λ m r id f is. resizes_none c.args.call.now id (ap resizes c.in-Next.is) is
+
+pub returns-in-Volume-clause-resizes : goal.returns-in-Volume-clause-resizes
+returns-in-Volume-clause-resizes g c = λ m r id f is. resizes_none c.args.call.now id (ap resizes c.in-Volume.is) is
+
+pub returns-in-SetSize-clause-resizes : goal.returns-in-SetSize-clause-resizes
+returns-in-SetSize-clause-resizes g c = λ m r id f is found.
+    let same : c.in-SetSize.id ≡ id = same_Some c.in-SetSize.id id (sym (ap resizes c.in-SetSize.is) ∙ is) in
+    c.set_size.ensures.after_sync m f r (ap (file_at m.files) same ∙ found)
+
+pub returns-in_default-clause-resizes : goal.returns-in_default-clause-resizes
+returns-in_default-clause-resizes g c = λ m r id f. resizes_none c.args.call.now id (no_resize c.args.call.now (on_spaces c.args.call.now c.requires.more c.in_default.not-Create c.in_default.not-Delete c.in_default.not-Attributes c.in_default.not-SetSize c.in_default.not-MakePermanent c.in_default.not-MakeImmutable c.in_default.not-Next c.in_default.not-Volume))

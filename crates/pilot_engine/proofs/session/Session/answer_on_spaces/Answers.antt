@@ -1,11 +1,10 @@
-use Rattle.std.proofs.Common.{ap, arith, length, List, Some, refl, rules, subst, sym, ℕ, ◌∙◌, ◌≡◌, ◌≤◌}
+use Rattle.std.proofs.Common.{ap, arith, length, List, Some, refl, subst, sym, ℕ, ◌∙◌, ◌≡◌, ◌≤◌}
 use Rattle.std.proofs.lemmas.Bool.{true≢false}
 use Rattle.flat_machine.specs.References.{is_reference}
 use Rattle.pilot_engine.specs.Labels.{keeps_labels}
-use Rattle.pilot_engine.specs.Stepping.{IsResident, StepHalts, brings_clients, waits}
+use Rattle.pilot_engine.specs.Stepping.{IsResident, StepHalts, waits}
 use Rattle.pilot_engine.proofs.BoundLemmas.{asked_inside}
 use Rattle.pilot_engine.proofs.LabelLemmas.{pages_alone}
-use Rattle.pilot_engine.proofs.LiftLemmas.{still_open}
 use Rattle.pilot_engine.proofs.StepLemmas.{none_on_spaces, nothing_revealed, of_pages}
 use Rattle.pilot_engine.proofs.AnonymousLemmas.{done_then, unset}
 use Rattle.fault_core.specs.Access.{last_page, BreaksFor}
@@ -14,9 +13,7 @@ use Rattle.fault_core.specs.Core.{kept, state}
 use Rattle.fault_core.specs.Kill.{AreWritableSo, is_absent}
 use Rattle.fault_core.specs.Range.{AreClean, AreGone}
 use Rattle.fault_core.specs.Unit.{IsReady}
-use Rattle.std.specs.Prelude.{IfErr, IfOk, OnOk}
-use Rattle.running_words.specs.Running.{Carried}
-use Rattle.running_words.specs.Stages.{Passes}
+use Rattle.std.specs.Prelude.{IfErr, OnOk}
 use Rattle.flat_machine.specs.Form.{IsInForm}
 use Rattle.flat_machine.specs.Refusal.{refusal}
 use Rattle.flat_machine.specs.declared.call.Call.{Call}
@@ -35,9 +32,9 @@ use Rattle.space_calls.specs.Halts.{ChangeHalts, MakeSpaceHalts, MapFileHalts, P
 use Rattle.space_calls.specs.ReasonLaws.{change_reasons, make_space_reasons, map_file_reasons, place_reasons, protect_reasons, remove_space_reasons}
 use Rattle.pilot_engine.proofs.HomeLemmas.{have_lower, reached_below}
 use Rattle.space_calls.specs.Mapping.{IsLastFrom, ReachesOver}
-use Rattle.pilot_engine.proofs.HomeSteps.{map_or_blameless, none_or_blameless, still_or_blameless}
+use Rattle.pilot_engine.proofs.HomeSteps.{map_or_blameless}
 use Rattle.pilot_engine.proofs.LackLemmas.{fails_missing_page}
-use Rattle.pilot_engine.proofs.ReasonSteps.{not_older_on, moving_ahead, moving_reasons, reaching_reasons, touching_reasons}
+use Rattle.pilot_engine.proofs.ReasonSteps.{not_older_on, moving_ahead, moving_reasons}
 use Rattle.pilot_engine.proofs.SpaceMisses.{change_misses, make_space_misses, map_file_misses, map_new_misses, place_misses, protect_misses, range_misses, remove_space_misses}
 use Rattle.pilot_engine.proofs.SparedCalls.{spares_quiet}
 use Rattle.session_words.specs.CellLaws.{IsTouchedOrOwn}
@@ -48,27 +45,22 @@ use Rattle.pilot_engine.proofs.ReferLemmas.{ok_always}
 use Rattle.pilot_engine.proofs.WritingLemmas.{allowed_asked, allowed_call, allowed_named}
 use Rattle.pilot_engine.proofs.session.Session.answer_on_spaces.Goals as goal
 use Rattle.filer_kernel.specs.View.{accepted}
+use Rattle.space_calls.specs.OutcomesLaws.{halted, halted_bringing}
+use Rattle.fault_core.specs.Reach.{TouchHalts}
+use Rattle.pilot_engine.proofs.SpaceSteps.{answers_on, bringing_accounts, quiet_accounts, reached_reasons, stays_on, touched_reasons}
+use Rattle.pilot_engine.specs.Calls.{Answers}
 use Rattle.filer_kernel.specs.FailsLaws.{if_fails}
 
 pub returns-in-MakeSpace-clause-answers : goal.returns-in-MakeSpace-clause-answers
-returns-in-MakeSpace-clause-answers g c = λ m r. record {
-  carried = (rw c.in-MakeSpace.is (c.make_space.ensures.carried c.args.self.now.volume m r));
-  sound = (c.make_space.ensures.sound c.args.self.now.volume m r);
-  passes = (rw c.in-MakeSpace.is (c.make_space.ensures.passes c.args.self.now.volume m r));
-  came = λ quiet. ok_always c.make_space.result _ c.make_space.ensures.came;
-  cost = c.make_space.ensures.cost;
-}
+returns-in-MakeSpace-clause-answers g c = λ m r.
+    let e = c.make_space.ensures in
+    rw c.in-MakeSpace.is (answers_on c.args.self.now c.make_space.new.core (e.answers c.args.self.now.volume m r) (λ quiet. ok_always c.make_space.result _ e.went.came) e.cost)
 
 pub returns-in-MakeSpace-clause-stays : goal.returns-in-MakeSpace-clause-stays
-returns-in-MakeSpace-clause-stays g c = record {
-  open_still = (still_open _ _ _ _ c.requires.opened c.make_space.ensures.layout refl);
-  monotone = (search rules);
-  serial = (search rules);
-  layout = c.make_space.ensures.layout;
-}
+returns-in-MakeSpace-clause-stays g c = stays_on c.args.self.now c.make_space.new.core c.requires.opened c.make_space.ensures.went.moves.layout
 
 pub returns-in-MakeSpace-clause-wrote : goal.returns-in-MakeSpace-clause-wrote
-returns-in-MakeSpace-clause-wrote g c = rw c.in-MakeSpace.is c.make_space.ensures.wrote
+returns-in-MakeSpace-clause-wrote g c = rw c.in-MakeSpace.is c.make_space.ensures.went.wrote
 
 pub returns-in-MakeSpace-clause-reference : goal.returns-in-MakeSpace-clause-reference
 returns-in-MakeSpace-clause-reference g c = λ revealed. absurd (true≢false (sym revealed ∙ ap is_reference c.in-MakeSpace.is))
@@ -80,24 +72,15 @@ pub returns-in-MakeSpace-clause-forced : goal.returns-in-MakeSpace-clause-forced
 returns-in-MakeSpace-clause-forced g c = λ m revealed free r. absurd (true≢false (sym revealed ∙ ap waits c.in-MakeSpace.is))
 
 pub returns-in-RemoveSpace-clause-answers : goal.returns-in-RemoveSpace-clause-answers
-returns-in-RemoveSpace-clause-answers g c = λ m r. record {
-  carried = (rw c.in-RemoveSpace.is (c.remove_space.ensures.carried c.args.self.now.volume m r));
-  sound = (c.remove_space.ensures.sound c.args.self.now.volume m r);
-  passes = (rw c.in-RemoveSpace.is (c.remove_space.ensures.passes c.args.self.now.volume m r));
-  came = λ quiet. ok_always c.remove_space.result _ c.remove_space.ensures.came;
-  cost = c.remove_space.ensures.cost;
-}
+returns-in-RemoveSpace-clause-answers g c = λ m r.
+    let e = c.remove_space.ensures in
+    rw c.in-RemoveSpace.is (answers_on c.args.self.now c.remove_space.new.core (e.answers c.args.self.now.volume m r) (λ quiet. ok_always c.remove_space.result _ e.went.came) e.cost)
 
 pub returns-in-RemoveSpace-clause-stays : goal.returns-in-RemoveSpace-clause-stays
-returns-in-RemoveSpace-clause-stays g c = record {
-  open_still = (still_open _ _ _ _ c.requires.opened c.remove_space.ensures.layout refl);
-  monotone = (search rules);
-  serial = (search rules);
-  layout = c.remove_space.ensures.layout;
-}
+returns-in-RemoveSpace-clause-stays g c = stays_on c.args.self.now c.remove_space.new.core c.requires.opened c.remove_space.ensures.went.moves.layout
 
 pub returns-in-RemoveSpace-clause-wrote : goal.returns-in-RemoveSpace-clause-wrote
-returns-in-RemoveSpace-clause-wrote g c = rw c.in-RemoveSpace.is c.remove_space.ensures.wrote
+returns-in-RemoveSpace-clause-wrote g c = rw c.in-RemoveSpace.is c.remove_space.ensures.went.wrote
 
 pub returns-in-RemoveSpace-clause-reference : goal.returns-in-RemoveSpace-clause-reference
 returns-in-RemoveSpace-clause-reference g c = λ revealed. absurd (true≢false (sym revealed ∙ ap is_reference c.in-RemoveSpace.is))
@@ -109,24 +92,15 @@ pub returns-in-RemoveSpace-clause-forced : goal.returns-in-RemoveSpace-clause-fo
 returns-in-RemoveSpace-clause-forced g c = λ m revealed free r. absurd (true≢false (sym revealed ∙ ap waits c.in-RemoveSpace.is))
 
 pub returns-in-Place-clause-answers : goal.returns-in-Place-clause-answers
-returns-in-Place-clause-answers g c = λ m r. record {
-  carried = (rw c.in-Place.is ((c.place.ensures.answers c.args.self.now.volume m r).carried));
-  sound = ((c.place.ensures.answers c.args.self.now.volume m r).sound);
-  passes = (rw c.in-Place.is ((c.place.ensures.answers c.args.self.now.volume m r).passes));
-  came = λ quiet. ok_always c.place.result _ c.place.ensures.came;
-  cost = c.place.ensures.cost;
-}
+returns-in-Place-clause-answers g c = λ m r.
+    let e = c.place.ensures in
+    rw c.in-Place.is (answers_on c.args.self.now c.place.new.core (e.answers c.args.self.now.volume m r) (λ quiet. ok_always c.place.result _ e.went.came) e.cost)
 
 pub returns-in-Place-clause-stays : goal.returns-in-Place-clause-stays
-returns-in-Place-clause-stays g c = record {
-  open_still = (still_open _ _ _ _ c.requires.opened c.place.ensures.layout refl);
-  monotone = (search rules);
-  serial = (search rules);
-  layout = c.place.ensures.layout;
-}
+returns-in-Place-clause-stays g c = stays_on c.args.self.now c.place.new.core c.requires.opened c.place.ensures.went.moves.layout
 
 pub returns-in-Place-clause-wrote : goal.returns-in-Place-clause-wrote
-returns-in-Place-clause-wrote g c = rw c.in-Place.is c.place.ensures.wrote
+returns-in-Place-clause-wrote g c = rw c.in-Place.is c.place.ensures.went.wrote
 
 pub returns-in-Place-clause-reference : goal.returns-in-Place-clause-reference
 returns-in-Place-clause-reference g c = λ revealed. absurd (true≢false (sym revealed ∙ ap is_reference c.in-Place.is))
@@ -138,24 +112,15 @@ pub returns-in-Place-clause-forced : goal.returns-in-Place-clause-forced
 returns-in-Place-clause-forced g c = λ m revealed free r. absurd (true≢false (sym revealed ∙ ap waits c.in-Place.is))
 
 pub returns-in-Units-clause-answers : goal.returns-in-Units-clause-answers
-returns-in-Units-clause-answers g c = λ m r. record {
-  carried = (rw c.in-Units.is (c.set_units.ensures.carried c.args.self.now.volume m r));
-  sound = (c.set_units.ensures.sound c.args.self.now.volume m r);
-  passes = (rw c.in-Units.is (c.set_units.ensures.passes c.args.self.now.volume m r));
-  came = λ quiet. ok_always c.set_units.result _ c.set_units.ensures.came;
-  cost = c.set_units.ensures.cost;
-}
+returns-in-Units-clause-answers g c = λ m r.
+    let e = c.set_units.ensures in
+    rw c.in-Units.is (answers_on c.args.self.now c.set_units.new.core (e.answers c.args.self.now.volume m r) (λ quiet. ok_always c.set_units.result _ e.went.came) e.cost)
 
 pub returns-in-Units-clause-stays : goal.returns-in-Units-clause-stays
-returns-in-Units-clause-stays g c = record {
-  open_still = (still_open _ _ _ _ c.requires.opened c.set_units.ensures.layout refl);
-  monotone = (search rules);
-  serial = (search rules);
-  layout = c.set_units.ensures.layout;
-}
+returns-in-Units-clause-stays g c = stays_on c.args.self.now c.set_units.new.core c.requires.opened c.set_units.ensures.went.moves.layout
 
 pub returns-in-Units-clause-wrote : goal.returns-in-Units-clause-wrote
-returns-in-Units-clause-wrote g c = rw c.in-Units.is c.set_units.ensures.wrote
+returns-in-Units-clause-wrote g c = rw c.in-Units.is c.set_units.ensures.went.wrote
 
 pub returns-in-Units-clause-reference : goal.returns-in-Units-clause-reference
 returns-in-Units-clause-reference g c = λ revealed. absurd (true≢false (sym revealed ∙ ap is_reference c.in-Units.is))
@@ -167,24 +132,15 @@ pub returns-in-Units-clause-forced : goal.returns-in-Units-clause-forced
 returns-in-Units-clause-forced g c = λ m revealed free r. absurd (true≢false (sym revealed ∙ ap waits c.in-Units.is))
 
 pub returns-in-Map-clause-answers : goal.returns-in-Map-clause-answers
-returns-in-Map-clause-answers g c = λ m r. record {
-  carried = (rw c.in-Map.is ((c.map.ensures.answers c.args.self.now.volume m r).carried));
-  sound = ((c.map.ensures.answers c.args.self.now.volume m r).sound);
-  passes = (rw c.in-Map.is ((c.map.ensures.answers c.args.self.now.volume m r).passes));
-  came = λ quiet. ok_always c.map.result _ c.map.ensures.came;
-  cost = c.map.ensures.cost;
-}
+returns-in-Map-clause-answers g c = λ m r.
+    let e = c.map.ensures in
+    rw c.in-Map.is (answers_on c.args.self.now c.map.new.core (e.answers c.args.self.now.volume m r) (λ quiet. ok_always c.map.result _ e.went.came) e.cost)
 
 pub returns-in-Map-clause-stays : goal.returns-in-Map-clause-stays
-returns-in-Map-clause-stays g c = record {
-  open_still = (still_open _ _ _ _ c.requires.opened c.map.ensures.layout refl);
-  monotone = (search rules);
-  serial = (search rules);
-  layout = c.map.ensures.layout;
-}
+returns-in-Map-clause-stays g c = stays_on c.args.self.now c.map.new.core c.requires.opened c.map.ensures.went.moves.layout
 
 pub returns-in-Map-clause-wrote : goal.returns-in-Map-clause-wrote
-returns-in-Map-clause-wrote g c = rw c.in-Map.is c.map.ensures.wrote
+returns-in-Map-clause-wrote g c = rw c.in-Map.is c.map.ensures.went.wrote
 
 pub returns-in-Map-clause-reference : goal.returns-in-Map-clause-reference
 returns-in-Map-clause-reference g c = λ revealed. absurd (true≢false (sym revealed ∙ ap is_reference c.in-Map.is))
@@ -226,24 +182,15 @@ pub returns-in-Unmap-clause-forced : goal.returns-in-Unmap-clause-forced
 returns-in-Unmap-clause-forced g c = λ m revealed free r. done_then m c.in-Unmap.space c.unmap.new.self.core c.unmap.new.self.volume _ c.unmap.result (sym (ap (refusal m) c.in-Unmap.is) ∙ free) ((c.unmap.ensures.answers m r).carried) c.unmap.ensures.synced
 
 pub returns-in-Protect-clause-answers : goal.returns-in-Protect-clause-answers
-returns-in-Protect-clause-answers g c = λ m r. record {
-  carried = (rw c.in-Protect.is ((c.protect.ensures.answers c.args.self.now.volume m r).carried));
-  sound = ((c.protect.ensures.answers c.args.self.now.volume m r).sound);
-  passes = (rw c.in-Protect.is ((c.protect.ensures.answers c.args.self.now.volume m r).passes));
-  came = λ quiet. ok_always c.protect.result _ c.protect.ensures.came;
-  cost = c.protect.ensures.cost;
-}
+returns-in-Protect-clause-answers g c = λ m r.
+    let e = c.protect.ensures in
+    rw c.in-Protect.is (answers_on c.args.self.now c.protect.new.core (e.answers c.args.self.now.volume m r) (λ quiet. ok_always c.protect.result _ e.went.came) e.cost)
 
 pub returns-in-Protect-clause-stays : goal.returns-in-Protect-clause-stays
-returns-in-Protect-clause-stays g c = record {
-  open_still = (still_open _ _ _ _ c.requires.opened c.protect.ensures.layout refl);
-  monotone = (search rules);
-  serial = (search rules);
-  layout = c.protect.ensures.layout;
-}
+returns-in-Protect-clause-stays g c = stays_on c.args.self.now c.protect.new.core c.requires.opened c.protect.ensures.went.moves.layout
 
 pub returns-in-Protect-clause-wrote : goal.returns-in-Protect-clause-wrote
-returns-in-Protect-clause-wrote g c = rw c.in-Protect.is c.protect.ensures.wrote
+returns-in-Protect-clause-wrote g c = rw c.in-Protect.is c.protect.ensures.went.wrote
 
 pub returns-in-Protect-clause-reference : goal.returns-in-Protect-clause-reference
 returns-in-Protect-clause-reference g c = λ revealed. absurd (true≢false (sym revealed ∙ ap is_reference c.in-Protect.is))
@@ -255,24 +202,16 @@ pub returns-in-Protect-clause-forced : goal.returns-in-Protect-clause-forced
 returns-in-Protect-clause-forced g c = λ m revealed free r. c.protect.ensures.synced c.args.self.now.volume m r (unset _ (sym (ap waits c.in-Protect.is) ∙ revealed)) (sym (ap (refusal m) c.in-Protect.is) ∙ free)
 
 pub returns-in-Load-clause-answers : goal.returns-in-Load-clause-answers
-returns-in-Load-clause-answers g c = λ m r. record {
-  carried = (rw c.in-Load.is ((c.load.ensures.answers c.args.self.now.volume m r).carried));
-  sound = ((c.load.ensures.answers c.args.self.now.volume m r).sound);
-  passes = (rw c.in-Load.is ((c.load.ensures.answers c.args.self.now.volume m r).passes));
-  came = λ quiet. absurd (true≢false (sym (ap brings_clients c.in-Load.is) ∙ quiet));
-  cost = (asked_inside (state c.args.self.now.core).disk (state c.load.new.core).disk 1680 (omega arith) c.load.ensures.cost);
-}
+returns-in-Load-clause-answers g c = λ m r.
+    let e = c.load.ensures in
+    let cost = asked_inside (state c.args.self.now.core).disk (state c.load.new.core).disk 1680 (omega arith) e.cost in
+    rw c.in-Load.is (answers_on c.args.self.now c.load.new.core (e.answers c.args.self.now.volume m r) (λ quiet. absurd (true≢false quiet)) cost)
 
 pub returns-in-Load-clause-stays : goal.returns-in-Load-clause-stays
-returns-in-Load-clause-stays g c = record {
-  open_still = (still_open _ _ _ _ c.requires.opened c.load.ensures.layout refl);
-  monotone = (search rules);
-  serial = (search rules);
-  layout = c.load.ensures.layout;
-}
+returns-in-Load-clause-stays g c = stays_on c.args.self.now c.load.new.core c.requires.opened c.load.ensures.went.moves.layout
 
 pub returns-in-Load-clause-wrote : goal.returns-in-Load-clause-wrote
-returns-in-Load-clause-wrote g c = rw c.in-Load.is c.load.ensures.wrote
+returns-in-Load-clause-wrote g c = rw c.in-Load.is c.load.ensures.went.wrote
 
 pub returns-in-Load-clause-advised : goal.returns-in-Load-clause-advised
 returns-in-Load-clause-advised g c = λ m free r. rw c.in-Load.is (c.load.ensures.ready c.args.self.now.volume m r (sym (ap (refusal m) c.in-Load.is) ∙ free))
@@ -281,26 +220,18 @@ pub returns-in-Load-clause-forced : goal.returns-in-Load-clause-forced
 returns-in-Load-clause-forced g c = λ m revealed free r. absurd (true≢false (sym revealed ∙ ap waits c.in-Load.is))
 
 pub returns-in-Store-clause-answers : goal.returns-in-Store-clause-answers
-returns-in-Store-clause-answers g c = λ m r. record {
-  carried = (rw c.in-Store.is
-      (subst (λ (bs : List ℕ). IfOk c.store.result (Carried m (call.Store c.in-Store.address bs) c.store.new.core c.args.self.now.volume)) c.as_slice.ensures.bytes ((c.store.ensures.answers c.args.self.now.volume m r).carried)));
-  sound = ((c.store.ensures.answers c.args.self.now.volume m r).sound);
-  passes = (rw c.in-Store.is
-      (subst (λ (bs : List ℕ). Passes m (call.Store c.in-Store.address bs) (state c.args.self.now.core).disk (state c.store.new.core).disk) c.as_slice.ensures.bytes ((c.store.ensures.answers c.args.self.now.volume m r).passes)));
-  came = λ quiet. absurd (true≢false (sym (ap brings_clients c.in-Store.is) ∙ quiet));
-  cost = (asked_inside (state c.args.self.now.core).disk (state c.store.new.core).disk 1680 (omega arith) c.store.ensures.cost);
-}
+returns-in-Store-clause-answers g c = λ m r.
+    let e = c.store.ensures in
+    let later = record c.args.self.now { core = c.store.new.core } in
+    let cost = asked_inside (state c.args.self.now.core).disk (state c.store.new.core).disk 1680 (omega arith) e.cost in
+    let answers = answers_on c.args.self.now c.store.new.core (e.answers c.args.self.now.volume m r) (λ quiet. absurd (true≢false quiet)) cost in
+    rw c.in-Store.is (subst (λ (bs : List ℕ). Answers m (call.Store c.in-Store.address bs) c.args.self.now later c.store.result) c.as_slice.ensures.bytes answers)
 
 pub returns-in-Store-clause-stays : goal.returns-in-Store-clause-stays
-returns-in-Store-clause-stays g c = record {
-  open_still = (still_open _ _ _ _ c.requires.opened c.store.ensures.layout refl);
-  monotone = (search rules);
-  serial = (search rules);
-  layout = c.store.ensures.layout;
-}
+returns-in-Store-clause-stays g c = stays_on c.args.self.now c.store.new.core c.requires.opened c.store.ensures.went.moves.layout
 
 pub returns-in-Store-clause-wrote : goal.returns-in-Store-clause-wrote
-returns-in-Store-clause-wrote g c = rw c.in-Store.is c.store.ensures.wrote
+returns-in-Store-clause-wrote g c = rw c.in-Store.is c.store.ensures.went.wrote
 
 pub returns-in-Store-clause-advised : goal.returns-in-Store-clause-advised
 returns-in-Store-clause-advised g c = λ m free r.
@@ -312,24 +243,15 @@ pub returns-in-Store-clause-forced : goal.returns-in-Store-clause-forced
 returns-in-Store-clause-forced g c = λ m revealed free r. absurd (true≢false (sym revealed ∙ ap waits c.in-Store.is))
 
 pub returns-in-Activate-clause-answers : goal.returns-in-Activate-clause-answers
-returns-in-Activate-clause-answers g c = λ m r. record {
-  carried = (rw c.in-Activate.is ((c.activate.ensures.answers c.args.self.now.volume m r).carried));
-  sound = ((c.activate.ensures.answers c.args.self.now.volume m r).sound);
-  passes = (rw c.in-Activate.is ((c.activate.ensures.answers c.args.self.now.volume m r).passes));
-  came = λ quiet. absurd (true≢false (sym (ap brings_clients c.in-Activate.is) ∙ quiet));
-  cost = c.activate.ensures.cost;
-}
+returns-in-Activate-clause-answers g c = λ m r.
+    let e = c.activate.ensures in
+    rw c.in-Activate.is (answers_on c.args.self.now c.activate.new.core (e.answers c.args.self.now.volume m r) (λ quiet. absurd (true≢false quiet)) e.cost)
 
 pub returns-in-Activate-clause-stays : goal.returns-in-Activate-clause-stays
-returns-in-Activate-clause-stays g c = record {
-  open_still = (still_open _ _ _ _ c.requires.opened c.activate.ensures.layout refl);
-  monotone = (search rules);
-  serial = (search rules);
-  layout = c.activate.ensures.layout;
-}
+returns-in-Activate-clause-stays g c = stays_on c.args.self.now c.activate.new.core c.requires.opened c.activate.ensures.went.moves.layout
 
 pub returns-in-Activate-clause-wrote : goal.returns-in-Activate-clause-wrote
-returns-in-Activate-clause-wrote g c = rw c.in-Activate.is c.activate.ensures.wrote
+returns-in-Activate-clause-wrote g c = rw c.in-Activate.is c.activate.ensures.went.wrote
 
 pub returns-in-Activate-clause-reference : goal.returns-in-Activate-clause-reference
 returns-in-Activate-clause-reference g c = λ revealed. absurd (true≢false (sym revealed ∙ ap is_reference c.in-Activate.is))
@@ -341,24 +263,15 @@ pub returns-in-Activate-clause-forced : goal.returns-in-Activate-clause-forced
 returns-in-Activate-clause-forced g c = λ m revealed free r. absurd (true≢false (sym revealed ∙ ap waits c.in-Activate.is))
 
 pub returns-in-Deactivate-clause-answers : goal.returns-in-Deactivate-clause-answers
-returns-in-Deactivate-clause-answers g c = λ m r. record {
-  carried = (rw c.in-Deactivate.is ((c.deactivate.ensures.answers c.args.self.now.volume m r).carried));
-  sound = ((c.deactivate.ensures.answers c.args.self.now.volume m r).sound);
-  passes = (rw c.in-Deactivate.is ((c.deactivate.ensures.answers c.args.self.now.volume m r).passes));
-  came = λ quiet. ok_always c.deactivate.result _ c.deactivate.ensures.came;
-  cost = c.deactivate.ensures.cost;
-}
+returns-in-Deactivate-clause-answers g c = λ m r.
+    let e = c.deactivate.ensures in
+    rw c.in-Deactivate.is (answers_on c.args.self.now c.deactivate.new.core (e.answers c.args.self.now.volume m r) (λ quiet. ok_always c.deactivate.result _ e.went.came) e.cost)
 
 pub returns-in-Deactivate-clause-stays : goal.returns-in-Deactivate-clause-stays
-returns-in-Deactivate-clause-stays g c = record {
-  open_still = (still_open _ _ _ _ c.requires.opened c.deactivate.ensures.layout refl);
-  monotone = (search rules);
-  serial = (search rules);
-  layout = c.deactivate.ensures.layout;
-}
+returns-in-Deactivate-clause-stays g c = stays_on c.args.self.now c.deactivate.new.core c.requires.opened c.deactivate.ensures.went.moves.layout
 
 pub returns-in-Deactivate-clause-wrote : goal.returns-in-Deactivate-clause-wrote
-returns-in-Deactivate-clause-wrote g c = rw c.in-Deactivate.is c.deactivate.ensures.wrote
+returns-in-Deactivate-clause-wrote g c = rw c.in-Deactivate.is c.deactivate.ensures.went.wrote
 
 pub returns-in-Deactivate-clause-reference : goal.returns-in-Deactivate-clause-reference
 returns-in-Deactivate-clause-reference g c = λ revealed. absurd (true≢false (sym revealed ∙ ap is_reference c.in-Deactivate.is))
@@ -370,24 +283,15 @@ pub returns-in-Deactivate-clause-forced : goal.returns-in-Deactivate-clause-forc
 returns-in-Deactivate-clause-forced g c = λ m revealed free r. absurd (true≢false (sym revealed ∙ ap waits c.in-Deactivate.is))
 
 pub returns-in-Kill-clause-answers : goal.returns-in-Kill-clause-answers
-returns-in-Kill-clause-answers g c = λ m r. record {
-  carried = (rw c.in-Kill.is ((c.kill.ensures.answers c.args.self.now.volume m r).carried));
-  sound = ((c.kill.ensures.answers c.args.self.now.volume m r).sound);
-  passes = (rw c.in-Kill.is ((c.kill.ensures.answers c.args.self.now.volume m r).passes));
-  came = λ quiet. ok_always c.kill.result _ c.kill.ensures.came;
-  cost = c.kill.ensures.cost;
-}
+returns-in-Kill-clause-answers g c = λ m r.
+    let e = c.kill.ensures in
+    rw c.in-Kill.is (answers_on c.args.self.now c.kill.new.core (e.answers c.args.self.now.volume m r) (λ quiet. ok_always c.kill.result _ e.went.came) e.cost)
 
 pub returns-in-Kill-clause-stays : goal.returns-in-Kill-clause-stays
-returns-in-Kill-clause-stays g c = record {
-  open_still = (still_open _ _ _ _ c.requires.opened c.kill.ensures.layout refl);
-  monotone = (search rules);
-  serial = (search rules);
-  layout = c.kill.ensures.layout;
-}
+returns-in-Kill-clause-stays g c = stays_on c.args.self.now c.kill.new.core c.requires.opened c.kill.ensures.went.moves.layout
 
 pub returns-in-Kill-clause-wrote : goal.returns-in-Kill-clause-wrote
-returns-in-Kill-clause-wrote g c = rw c.in-Kill.is c.kill.ensures.wrote
+returns-in-Kill-clause-wrote g c = rw c.in-Kill.is c.kill.ensures.went.wrote
 
 pub returns-in-Kill-clause-reference : goal.returns-in-Kill-clause-reference
 returns-in-Kill-clause-reference g c = λ revealed. absurd (true≢false (sym revealed ∙ ap is_reference c.in-Kill.is))
@@ -399,24 +303,15 @@ pub returns-in-Kill-clause-forced : goal.returns-in-Kill-clause-forced
 returns-in-Kill-clause-forced g c = λ m revealed free r. absurd (true≢false (sym revealed ∙ ap waits c.in-Kill.is))
 
 pub returns-in-ForceOut-clause-answers : goal.returns-in-ForceOut-clause-answers
-returns-in-ForceOut-clause-answers g c = λ m r. record {
-  carried = (rw c.in-ForceOut.is ((c.force_out.ensures.answers c.args.self.now.volume m r).carried));
-  sound = ((c.force_out.ensures.answers c.args.self.now.volume m r).sound);
-  passes = (rw c.in-ForceOut.is ((c.force_out.ensures.answers c.args.self.now.volume m r).passes));
-  came = λ quiet. ok_always c.force_out.result _ c.force_out.ensures.came;
-  cost = c.force_out.ensures.cost;
-}
+returns-in-ForceOut-clause-answers g c = λ m r.
+    let e = c.force_out.ensures in
+    rw c.in-ForceOut.is (answers_on c.args.self.now c.force_out.new.core (e.answers c.args.self.now.volume m r) (λ quiet. ok_always c.force_out.result _ e.went.came) e.cost)
 
 pub returns-in-ForceOut-clause-stays : goal.returns-in-ForceOut-clause-stays
-returns-in-ForceOut-clause-stays g c = record {
-  open_still = (still_open _ _ _ _ c.requires.opened c.force_out.ensures.layout refl);
-  monotone = (search rules);
-  serial = (search rules);
-  layout = c.force_out.ensures.layout;
-}
+returns-in-ForceOut-clause-stays g c = stays_on c.args.self.now c.force_out.new.core c.requires.opened c.force_out.ensures.went.moves.layout
 
 pub returns-in-ForceOut-clause-wrote : goal.returns-in-ForceOut-clause-wrote
-returns-in-ForceOut-clause-wrote g c = rw c.in-ForceOut.is c.force_out.ensures.wrote
+returns-in-ForceOut-clause-wrote g c = rw c.in-ForceOut.is c.force_out.ensures.went.wrote
 
 pub returns-in-ForceOut-clause-reference : goal.returns-in-ForceOut-clause-reference
 returns-in-ForceOut-clause-reference g c = λ revealed. absurd (true≢false (sym revealed ∙ ap is_reference c.in-ForceOut.is))
@@ -492,19 +387,19 @@ returns-in-Store-clause-idle g c = λ m r resident.
     (done.0, done.1)
 
 pub returns-in-MakeSpace-clause-fails : goal.returns-in-MakeSpace-clause-fails
-returns-in-MakeSpace-clause-fails g c = if_fails _ _ _ c.make_space.result (rw c.in-MakeSpace.is c.make_space.ensures.cause) c.make_space.ensures.counted c.make_space.ensures.evidence_seen
+returns-in-MakeSpace-clause-fails g c = rw c.in-MakeSpace.is (halted c.make_space.ensures.fails)
 
 pub returns-in-RemoveSpace-clause-fails : goal.returns-in-RemoveSpace-clause-fails
-returns-in-RemoveSpace-clause-fails g c = if_fails _ _ _ c.remove_space.result (rw c.in-RemoveSpace.is c.remove_space.ensures.cause) c.remove_space.ensures.counted c.remove_space.ensures.evidence_seen
+returns-in-RemoveSpace-clause-fails g c = rw c.in-RemoveSpace.is (halted c.remove_space.ensures.fails)
 
 pub returns-in-Place-clause-fails : goal.returns-in-Place-clause-fails
-returns-in-Place-clause-fails g c = if_fails _ _ _ c.place.result (rw c.in-Place.is c.place.ensures.cause) c.place.ensures.counted c.place.ensures.evidence_seen
+returns-in-Place-clause-fails g c = rw c.in-Place.is (halted c.place.ensures.fails)
 
 pub returns-in-Units-clause-fails : goal.returns-in-Units-clause-fails
-returns-in-Units-clause-fails g c = if_fails _ _ _ c.set_units.result (rw c.in-Units.is c.set_units.ensures.cause) c.set_units.ensures.counted c.set_units.ensures.evidence_seen
+returns-in-Units-clause-fails g c = rw c.in-Units.is (halted c.set_units.ensures.fails)
 
 pub returns-in-Map-clause-fails : goal.returns-in-Map-clause-fails
-returns-in-Map-clause-fails g c = if_fails _ _ _ c.map.result (rw c.in-Map.is c.map.ensures.cause) c.map.ensures.counted c.map.ensures.evidence_seen
+returns-in-Map-clause-fails g c = rw c.in-Map.is (halted c.map.ensures.fails)
 
 pub returns-in-MapAnonymous-clause-fails : goal.returns-in-MapAnonymous-clause-fails
 returns-in-MapAnonymous-clause-fails g c = if_fails _ _ _ c.map_anonymous.result (rw c.in-MapAnonymous.is c.map_anonymous.ensures.cause) c.map_anonymous.ensures.counted c.map_anonymous.ensures.evidence_seen
@@ -513,99 +408,68 @@ pub returns-in-Unmap-clause-fails : goal.returns-in-Unmap-clause-fails
 returns-in-Unmap-clause-fails g c = if_fails _ _ _ c.unmap.result (rw c.in-Unmap.is c.unmap.ensures.cause) c.unmap.ensures.counted c.unmap.ensures.evidence_seen
 
 pub returns-in-Protect-clause-fails : goal.returns-in-Protect-clause-fails
-returns-in-Protect-clause-fails g c = if_fails _ _ _ c.protect.result (rw c.in-Protect.is c.protect.ensures.cause) c.protect.ensures.counted c.protect.ensures.evidence_seen
+returns-in-Protect-clause-fails g c = rw c.in-Protect.is (halted c.protect.ensures.fails)
 
 pub returns-in-Load-clause-fails : goal.returns-in-Load-clause-fails
-returns-in-Load-clause-fails g c = if_fails _ _ _ c.load.result (rw c.in-Load.is c.load.ensures.cause) c.load.ensures.counted c.load.ensures.evidence_seen
+returns-in-Load-clause-fails g c = rw c.in-Load.is (halted_bringing c.load.ensures.fails)
 
 pub returns-in-Store-clause-fails : goal.returns-in-Store-clause-fails
 returns-in-Store-clause-fails g c = if_fails _ _ _ c.store.result (rw c.in-Store.is
-    (subst (λ (bs : List ℕ). IfErr c.store.result (StepHalts 0 (call.Store c.in-Store.address bs) c.args.self.now.core.intervals (state c.args.self.now.core) (state c.store.new.core))) c.as_slice.ensures.bytes c.store.ensures.cause)) c.store.ensures.counted c.store.ensures.evidence_seen
+    (subst (λ (bs : List ℕ). IfErr c.store.result (StepHalts 0 (call.Store c.in-Store.address bs) c.args.self.now.core.intervals (state c.args.self.now.core) (state c.store.new.core))) c.as_slice.ensures.bytes c.store.ensures.fails.cause)) c.store.ensures.fails.counted c.store.ensures.fails.evidence_seen
 
 pub returns-in-Activate-clause-fails : goal.returns-in-Activate-clause-fails
-returns-in-Activate-clause-fails g c = if_fails _ _ _ c.activate.result (rw c.in-Activate.is c.activate.ensures.cause) c.activate.ensures.counted c.activate.ensures.evidence_seen
+returns-in-Activate-clause-fails g c = rw c.in-Activate.is (halted_bringing c.activate.ensures.fails)
 
 pub returns-in-Deactivate-clause-fails : goal.returns-in-Deactivate-clause-fails
-returns-in-Deactivate-clause-fails g c = if_fails _ _ _ c.deactivate.result (rw c.in-Deactivate.is c.deactivate.ensures.cause) c.deactivate.ensures.counted c.deactivate.ensures.evidence_seen
+returns-in-Deactivate-clause-fails g c = rw c.in-Deactivate.is (halted c.deactivate.ensures.fails)
 
 pub returns-in-Kill-clause-fails : goal.returns-in-Kill-clause-fails
-returns-in-Kill-clause-fails g c = if_fails _ _ _ c.kill.result (rw c.in-Kill.is c.kill.ensures.cause) c.kill.ensures.counted c.kill.ensures.evidence_seen
+returns-in-Kill-clause-fails g c = rw c.in-Kill.is (halted c.kill.ensures.fails)
 
 pub returns-in-ForceOut-clause-fails : goal.returns-in-ForceOut-clause-fails
-returns-in-ForceOut-clause-fails g c = if_fails _ _ _ c.force_out.result (rw c.in-ForceOut.is c.force_out.ensures.cause) c.force_out.ensures.counted c.force_out.ensures.evidence_seen
+returns-in-ForceOut-clause-fails g c = rw c.in-ForceOut.is (halted c.force_out.ensures.fails)
 
 -- ---- The initial state.
 
 pub returns-in-MakeSpace-clause-accounts : goal.returns-in-MakeSpace-clause-accounts
 returns-in-MakeSpace-clause-accounts g c = λ o k n.
-    let old = c.args.self.now.core in
-    let count = old.intervals in
-    record {
-      keeps_to = (moving_ahead (state old) (state c.make_space.new.core) c.make_space.result (accepted old.filer) c.make_space.ensures.moves o c.args.self.now.volume.root k n);
-      reasons = (moving_reasons (MakeSpaceHalts c.in-MakeSpace.parent c.in-MakeSpace.pages c.in-MakeSpace.first count) (make_space_reasons c.in-MakeSpace.parent c.in-MakeSpace.pages c.in-MakeSpace.first count)
-          (state old) (state c.make_space.new.core) c.make_space.result (accepted old.filer) c.make_space.ensures.moves c.make_space.ensures.cause o k);
-      sees = (λ seen. let old = c.args.self.now.core in
-          let count = old.intervals in
-          none_or_blameless o old c.make_space.new.core c.make_space.ensures.moves.goes.makes c.make_space.result c.make_space.ensures.sees c.make_space.ensures.right
-          (fails_missing_page (MakeSpaceHalts c.in-MakeSpace.parent c.in-MakeSpace.pages c.in-MakeSpace.first count) no_page (make_space_misses c.in-MakeSpace.parent c.in-MakeSpace.pages c.in-MakeSpace.first count no_page) (state old) (state c.make_space.new.core) c.make_space.result c.make_space.ensures.cause) seen);
-    }
+    let count = c.args.self.now.core.intervals in
+    let e = c.make_space.ensures in
+    quiet_accounts c.args.self.now c.make_space.new.core (MakeSpaceHalts c.in-MakeSpace.parent c.in-MakeSpace.pages c.in-MakeSpace.first count) (make_space_reasons c.in-MakeSpace.parent c.in-MakeSpace.pages c.in-MakeSpace.first count) c.make_space.result e.went.moves e.sees o k n (make_space_misses c.in-MakeSpace.parent c.in-MakeSpace.pages c.in-MakeSpace.first count no_page) e.fails
 
 pub returns-in-RemoveSpace-clause-accounts : goal.returns-in-RemoveSpace-clause-accounts
 returns-in-RemoveSpace-clause-accounts g c = λ o k n.
-    let old = c.args.self.now.core in
-    let count = old.intervals in
-    record {
-      keeps_to = (moving_ahead (state old) (state c.remove_space.new.core) c.remove_space.result (accepted old.filer) c.remove_space.ensures.moves o c.args.self.now.volume.root k n);
-      reasons = (moving_reasons (RemoveSpaceHalts c.in-RemoveSpace.space count) (remove_space_reasons c.in-RemoveSpace.space count)
-          (state old) (state c.remove_space.new.core) c.remove_space.result (accepted old.filer) c.remove_space.ensures.moves c.remove_space.ensures.cause o k);
-      sees = (λ seen. let old = c.args.self.now.core in
-          let count = old.intervals in
-          none_or_blameless o old c.remove_space.new.core c.remove_space.ensures.moves.goes.makes c.remove_space.result c.remove_space.ensures.sees c.remove_space.ensures.right
-          (fails_missing_page (RemoveSpaceHalts c.in-RemoveSpace.space count) no_page (remove_space_misses c.in-RemoveSpace.space count no_page) (state old) (state c.remove_space.new.core) c.remove_space.result c.remove_space.ensures.cause) seen);
-    }
+    let count = c.args.self.now.core.intervals in
+    let e = c.remove_space.ensures in
+    quiet_accounts c.args.self.now c.remove_space.new.core (RemoveSpaceHalts c.in-RemoveSpace.space count) (remove_space_reasons c.in-RemoveSpace.space count) c.remove_space.result e.went.moves e.sees o k n (remove_space_misses c.in-RemoveSpace.space count no_page) e.fails
 
 pub returns-in-Place-clause-accounts : goal.returns-in-Place-clause-accounts
 returns-in-Place-clause-accounts g c = λ o k n.
-    let old = c.args.self.now.core in
-    let count = old.intervals in
-    record {
-      keeps_to = (moving_ahead (state old) (state c.place.new.core) c.place.result (accepted old.filer) c.place.ensures.moves o c.args.self.now.volume.root k n);
-      reasons = (moving_reasons (PlaceHalts c.in-Place.page count) (place_reasons c.in-Place.page count)
-          (state old) (state c.place.new.core) c.place.result (accepted old.filer) c.place.ensures.moves c.place.ensures.cause o k);
-      sees = (λ seen. let old = c.args.self.now.core in
-          let count = old.intervals in
-          none_or_blameless o old c.place.new.core c.place.ensures.moves.goes.makes c.place.result c.place.ensures.sees c.place.ensures.right
-          (fails_missing_page (PlaceHalts c.in-Place.page count) no_page (place_misses c.in-Place.page count no_page) (state old) (state c.place.new.core) c.place.result c.place.ensures.cause) seen);
-    }
+    let count = c.args.self.now.core.intervals in
+    let e = c.place.ensures in
+    quiet_accounts c.args.self.now c.place.new.core (PlaceHalts c.in-Place.page count) (place_reasons c.in-Place.page count) c.place.result e.went.moves e.sees o k n (place_misses c.in-Place.page count no_page) e.fails
 
 pub returns-in-Units-clause-accounts : goal.returns-in-Units-clause-accounts
 returns-in-Units-clause-accounts g c = λ o k n.
-    let old = c.args.self.now.core in
-    let count = old.intervals in
-    record {
-      keeps_to = (moving_ahead (state old) (state c.set_units.new.core) c.set_units.result (accepted old.filer) c.set_units.ensures.moves o c.args.self.now.volume.root k n);
-      reasons = (moving_reasons (ChangeHalts count) (change_reasons count) (state old) (state c.set_units.new.core) c.set_units.result (accepted old.filer) c.set_units.ensures.moves c.set_units.ensures.cause o k);
-      sees = (λ seen. let old = c.args.self.now.core in
-          let count = old.intervals in
-          none_or_blameless o old c.set_units.new.core c.set_units.ensures.moves.goes.makes c.set_units.result c.set_units.ensures.sees c.set_units.ensures.right
-          (fails_missing_page (ChangeHalts count) no_page (change_misses count no_page) (state old) (state c.set_units.new.core) c.set_units.result c.set_units.ensures.cause) seen);
-    }
+    let count = c.args.self.now.core.intervals in
+    let e = c.set_units.ensures in
+    quiet_accounts c.args.self.now c.set_units.new.core (ChangeHalts count) (change_reasons count) c.set_units.result e.went.moves e.sees o k n (change_misses count no_page) e.fails
 
 pub returns-in-Map-clause-accounts : goal.returns-in-Map-clause-accounts
 returns-in-Map-clause-accounts g c = λ o k n.
     let old = c.args.self.now.core in
     let count = old.intervals in
     record {
-      keeps_to = (moving_ahead (state old) (state c.map.new.core) c.map.result (accepted old.filer) c.map.ensures.moves o c.args.self.now.volume.root k n);
+      keeps_to = (moving_ahead (state old) (state c.map.new.core) c.map.result (accepted old.filer) c.map.ensures.went.moves o c.args.self.now.volume.root k n);
       reasons = (moving_reasons (MapFileHalts c.in-Map.space c.in-Map.id count) (map_file_reasons c.in-Map.space c.in-Map.id count)
-          (state old) (state c.map.new.core) c.map.result (accepted old.filer) c.map.ensures.moves c.map.ensures.cause o k);
+          (state old) (state c.map.new.core) c.map.result (accepted old.filer) c.map.ensures.went.moves c.map.ensures.fails.cause o k);
       sees = (λ seen. let old = c.args.self.now.core in
           let count = old.intervals in
           let reached = c.map.ensures.found seen.0 k.1.0.memory k.0 seen.1.0 k.1.0.stands k.1.0.map k.1.0.kept in
-          map_or_blameless o old c.map.new.core c.map.ensures.moves.goes.makes c.in-Map.space c.in-Map.id c.in-Map.page c.map.result c.map.ensures.sees seen
+          map_or_blameless o old c.map.new.core c.map.ensures.went.moves.goes.makes c.in-Map.space c.in-Map.id c.in-Map.page c.map.result c.map.ensures.sees seen
           (ok_wider c.map.result (λ reply. reply ≡ answer.Done → ReachesOver seen.0 c.in-Map.space c.in-Map.id c.in-Map.page k.0) (λ reply. reply ≡ answer.Done → (last : ℕ) → IsLastFrom seen.0 c.in-Map.space c.in-Map.page last → WasBelow o (state old).disk c.in-Map.id last)
           (λ reply reaches is. reached_below k.1.0 seen.0 c.in-Map.space c.in-Map.id c.in-Map.page (reaches is)) reached)
-          c.map.ensures.right (fails_missing_page (MapFileHalts c.in-Map.space c.in-Map.id count) no_page (map_file_misses c.in-Map.space c.in-Map.id count no_page) (state old) (state c.map.new.core) c.map.result c.map.ensures.cause));
+          c.map.ensures.fails.right (fails_missing_page (MapFileHalts c.in-Map.space c.in-Map.id count) no_page (map_file_misses c.in-Map.space c.in-Map.id count no_page) (state old) (state c.map.new.core) c.map.result c.map.ensures.fails.cause));
     }
 
 pub returns-in-Unmap-clause-accounts : goal.returns-in-Unmap-clause-accounts
@@ -617,96 +481,48 @@ returns-in-Unmap-clause-accounts g c = λ o k n. record {
 
 pub returns-in-Protect-clause-accounts : goal.returns-in-Protect-clause-accounts
 returns-in-Protect-clause-accounts g c = λ o k n.
-    let old = c.args.self.now.core in
-    let count = old.intervals in
-    record {
-      keeps_to = (moving_ahead (state old) (state c.protect.new.core) c.protect.result (accepted old.filer) c.protect.ensures.moves o c.args.self.now.volume.root k n);
-      reasons = (moving_reasons (ProtectHalts c.in-Protect.space c.in-Protect.writable count) (protect_reasons c.in-Protect.space c.in-Protect.writable count)
-          (state old) (state c.protect.new.core) c.protect.result (accepted old.filer) c.protect.ensures.moves c.protect.ensures.cause o k);
-      sees = (λ seen. let old = c.args.self.now.core in
-          let count = old.intervals in
-          none_or_blameless o old c.protect.new.core c.protect.ensures.moves.goes.makes c.protect.result c.protect.ensures.sees c.protect.ensures.right
-          (fails_missing_page (ProtectHalts c.in-Protect.space c.in-Protect.writable count) no_page (protect_misses c.in-Protect.space c.in-Protect.writable count no_page) (state old) (state c.protect.new.core) c.protect.result c.protect.ensures.cause) seen);
-    }
+    let count = c.args.self.now.core.intervals in
+    let e = c.protect.ensures in
+    quiet_accounts c.args.self.now c.protect.new.core (ProtectHalts c.in-Protect.space c.in-Protect.writable count) (protect_reasons c.in-Protect.space c.in-Protect.writable count) c.protect.result e.went.moves e.sees o k n (protect_misses c.in-Protect.space c.in-Protect.writable count no_page) e.fails
 
 pub returns-in-Load-clause-accounts : goal.returns-in-Load-clause-accounts
 returns-in-Load-clause-accounts g c = λ o k n.
-    let old = c.args.self.now.core in
-    let count = old.intervals in
-    record {
-      keeps_to = (moving_ahead (state old) (state c.load.new.core) c.load.result (accepted old.filer) c.load.ensures.moves o c.args.self.now.volume.root k n);
-      reasons = (touching_reasons (λ v. BreaksFor v count c.in-Load.address c.in-Load.count) (state old) (state c.load.new.core) c.load.result (accepted old.filer) c.load.ensures.moves c.load.ensures.cause o k);
-      sees = (λ seen. let old = c.args.self.now.core in
-          still_or_blameless o old c.load.new.core c.load.ensures.moves.goes.makes c.load.result c.load.ensures.sees c.load.ensures.right
-          (shown_units seen.0 c.in-Load.address c.in-Load.count) (c.load.ensures.missing seen.0 seen.1.0) (units_on (WasBelow o (state old).disk) (have_lower o (state old).disk) seen.0 seen.1.1 c.in-Load.address c.in-Load.count) seen);
-    }
+    let count = c.args.self.now.core.intervals in
+    let e = c.load.ensures in
+    bringing_accounts c.args.self.now c.load.new.core (λ v w e. TouchHalts (BreaksFor v count c.in-Load.address c.in-Load.count) v w e) (touched_reasons (λ v. BreaksFor v count c.in-Load.address c.in-Load.count)) c.load.result e.went.moves e.sees o k n
+    (λ ss. shown_units ss c.in-Load.address c.in-Load.count) e.fails (λ seen. units_on (WasBelow o (state c.args.self.now.core).disk) (have_lower o (state c.args.self.now.core).disk) seen.0 seen.1.1 c.in-Load.address c.in-Load.count)
 
 pub returns-in-Store-clause-accounts : goal.returns-in-Store-clause-accounts
 returns-in-Store-clause-accounts g c = λ o k n.
-    let old = c.args.self.now.core in
-    let count = old.intervals in
-    record {
-      keeps_to = (moving_ahead (state old) (state c.store.new.core) c.store.result (accepted old.filer) c.store.ensures.moves o c.args.self.now.volume.root k n);
-      reasons = (touching_reasons (λ v. BreaksFor v count c.in-Store.address (length c.as_slice.result.now))
-          (state old) (state c.store.new.core) c.store.result (accepted old.filer) c.store.ensures.moves c.store.ensures.cause o k);
-      sees = (λ seen. let old = c.args.self.now.core in
-          still_or_blameless o old c.store.new.core c.store.ensures.moves.goes.makes c.store.result c.store.ensures.sees c.store.ensures.right
-          (shown_units seen.0 c.in-Store.address (length c.as_slice.result.now)) (c.store.ensures.missing seen.0 seen.1.0) (units_on (WasBelow o (state old).disk) (have_lower o (state old).disk) seen.0 seen.1.1 c.in-Store.address (length c.as_slice.result.now)) seen);
-    }
+    let count = c.args.self.now.core.intervals in
+    let e = c.store.ensures in
+    bringing_accounts c.args.self.now c.store.new.core (λ v w e. TouchHalts (BreaksFor v count c.in-Store.address (length c.as_slice.result.now)) v w e) (touched_reasons (λ v. BreaksFor v count c.in-Store.address (length c.as_slice.result.now))) c.store.result e.went.moves e.sees o k n
+    (λ ss. shown_units ss c.in-Store.address (length c.as_slice.result.now)) e.fails (λ seen. units_on (WasBelow o (state c.args.self.now.core).disk) (have_lower o (state c.args.self.now.core).disk) seen.0 seen.1.1 c.in-Store.address (length c.as_slice.result.now))
 
 pub returns-in-Activate-clause-accounts : goal.returns-in-Activate-clause-accounts
 returns-in-Activate-clause-accounts g c = λ o k n.
-    let old = c.args.self.now.core in
-    let count = old.intervals in
-    record {
-      keeps_to = (moving_ahead (state old) (state c.activate.new.core) c.activate.result (accepted old.filer) c.activate.ensures.moves o c.args.self.now.volume.root k n);
-      reasons = (touching_reasons (λ v. BreaksRange v count c.in-Activate.space)
-          (state old) (state c.activate.new.core) c.activate.result (accepted old.filer) c.activate.ensures.moves c.activate.ensures.cause o k);
-      sees = (λ seen. let old = c.args.self.now.core in
-          still_or_blameless o old c.activate.new.core c.activate.ensures.moves.goes.makes c.activate.result c.activate.ensures.sees c.activate.ensures.right
-          (space_units seen.0 c.in-Activate.space) (c.activate.ensures.missing seen.0 seen.1.0) (space_on (WasBelow o (state old).disk) (have_lower o (state old).disk) seen.0 seen.1.1 c.in-Activate.space) seen);
-    }
+    let count = c.args.self.now.core.intervals in
+    let e = c.activate.ensures in
+    bringing_accounts c.args.self.now c.activate.new.core (λ v w e. TouchHalts (BreaksRange v count c.in-Activate.space) v w e) (touched_reasons (λ v. BreaksRange v count c.in-Activate.space)) c.activate.result e.went.moves e.sees o k n
+    (λ ss. space_units ss c.in-Activate.space) e.fails (λ seen. space_on (WasBelow o (state c.args.self.now.core).disk) (have_lower o (state c.args.self.now.core).disk) seen.0 seen.1.1 c.in-Activate.space)
 
 pub returns-in-Deactivate-clause-accounts : goal.returns-in-Deactivate-clause-accounts
 returns-in-Deactivate-clause-accounts g c = λ o k n.
-    let old = c.args.self.now.core in
-    let count = old.intervals in
-    record {
-      keeps_to = (moving_ahead (state old) (state c.deactivate.new.core) c.deactivate.result (accepted old.filer) c.deactivate.ensures.moves o c.args.self.now.volume.root k n);
-      reasons = (reaching_reasons (λ v. BreaksRange v count c.in-Deactivate.space)
-          (state old) (state c.deactivate.new.core) c.deactivate.result (accepted old.filer) c.deactivate.ensures.moves c.deactivate.ensures.cause o k);
-      sees = (λ seen. let old = c.args.self.now.core in
-          let count = old.intervals in
-          none_or_blameless o old c.deactivate.new.core c.deactivate.ensures.moves.goes.makes c.deactivate.result c.deactivate.ensures.sees c.deactivate.ensures.right
-          (fails_missing_page (λ v w e. ReachHalts (BreaksRange v count c.in-Deactivate.space) v w e) no_page (range_misses c.in-Deactivate.space count no_page) (state old) (state c.deactivate.new.core) c.deactivate.result c.deactivate.ensures.cause) seen);
-    }
+    let count = c.args.self.now.core.intervals in
+    let e = c.deactivate.ensures in
+    quiet_accounts c.args.self.now c.deactivate.new.core (λ v w e. ReachHalts (BreaksRange v count c.in-Deactivate.space) v w e) (reached_reasons (λ v. BreaksRange v count c.in-Deactivate.space)) c.deactivate.result e.went.moves e.sees o k n (range_misses c.in-Deactivate.space count no_page) e.fails
 
 pub returns-in-Kill-clause-accounts : goal.returns-in-Kill-clause-accounts
 returns-in-Kill-clause-accounts g c = λ o k n.
-    let old = c.args.self.now.core in
-    let count = old.intervals in
-    record {
-      keeps_to = (moving_ahead (state old) (state c.kill.new.core) c.kill.result (accepted old.filer) c.kill.ensures.moves o c.args.self.now.volume.root k n);
-      reasons = (reaching_reasons (λ v. BreaksRange v count c.in-Kill.space) (state old) (state c.kill.new.core) c.kill.result (accepted old.filer) c.kill.ensures.moves c.kill.ensures.cause o k);
-      sees = (λ seen. let old = c.args.self.now.core in
-          let count = old.intervals in
-          none_or_blameless o old c.kill.new.core c.kill.ensures.moves.goes.makes c.kill.result c.kill.ensures.sees c.kill.ensures.right
-          (fails_missing_page (λ v w e. ReachHalts (BreaksRange v count c.in-Kill.space) v w e) no_page (range_misses c.in-Kill.space count no_page) (state old) (state c.kill.new.core) c.kill.result c.kill.ensures.cause) seen);
-    }
+    let count = c.args.self.now.core.intervals in
+    let e = c.kill.ensures in
+    quiet_accounts c.args.self.now c.kill.new.core (λ v w e. ReachHalts (BreaksRange v count c.in-Kill.space) v w e) (reached_reasons (λ v. BreaksRange v count c.in-Kill.space)) c.kill.result e.went.moves e.sees o k n (range_misses c.in-Kill.space count no_page) e.fails
 
 pub returns-in-ForceOut-clause-accounts : goal.returns-in-ForceOut-clause-accounts
 returns-in-ForceOut-clause-accounts g c = λ o k n.
-    let old = c.args.self.now.core in
-    let count = old.intervals in
-    record {
-      keeps_to = (moving_ahead (state old) (state c.force_out.new.core) c.force_out.result (accepted old.filer) c.force_out.ensures.moves o c.args.self.now.volume.root k n);
-      reasons = (reaching_reasons (λ v. BreaksRange v count c.in-ForceOut.space)
-          (state old) (state c.force_out.new.core) c.force_out.result (accepted old.filer) c.force_out.ensures.moves c.force_out.ensures.cause o k);
-      sees = (λ seen. let old = c.args.self.now.core in
-          let count = old.intervals in
-          none_or_blameless o old c.force_out.new.core c.force_out.ensures.moves.goes.makes c.force_out.result c.force_out.ensures.sees c.force_out.ensures.right
-          (fails_missing_page (λ v w e. ReachHalts (BreaksRange v count c.in-ForceOut.space) v w e) no_page (range_misses c.in-ForceOut.space count no_page) (state old) (state c.force_out.new.core) c.force_out.result c.force_out.ensures.cause) seen);
-    }
+    let count = c.args.self.now.core.intervals in
+    let e = c.force_out.ensures in
+    quiet_accounts c.args.self.now c.force_out.new.core (λ v w e. ReachHalts (BreaksRange v count c.in-ForceOut.space) v w e) (reached_reasons (λ v. BreaksRange v count c.in-ForceOut.space)) c.force_out.result e.went.moves e.sees o k n (range_misses c.in-ForceOut.space count no_page) e.fails
 
 -- ---- Which pages are missing.
 
@@ -714,31 +530,31 @@ pub returns-in-MakeSpace-clause-missing : goal.returns-in-MakeSpace-clause-missi
 returns-in-MakeSpace-clause-missing g c = λ ss sees.
     let old = c.args.self.now.core in
     let count = old.intervals in
-    rw c.in-MakeSpace.is (fails_missing_page (MakeSpaceHalts c.in-MakeSpace.parent c.in-MakeSpace.pages c.in-MakeSpace.first count) no_page (make_space_misses c.in-MakeSpace.parent c.in-MakeSpace.pages c.in-MakeSpace.first count no_page) (state old) (state c.make_space.new.core) c.make_space.result c.make_space.ensures.cause)
+    rw c.in-MakeSpace.is (fails_missing_page (MakeSpaceHalts c.in-MakeSpace.parent c.in-MakeSpace.pages c.in-MakeSpace.first count) no_page (make_space_misses c.in-MakeSpace.parent c.in-MakeSpace.pages c.in-MakeSpace.first count no_page) (state old) (state c.make_space.new.core) c.make_space.result c.make_space.ensures.fails.cause)
 
 pub returns-in-RemoveSpace-clause-missing : goal.returns-in-RemoveSpace-clause-missing
 returns-in-RemoveSpace-clause-missing g c = λ ss sees.
     let old = c.args.self.now.core in
     let count = old.intervals in
-    rw c.in-RemoveSpace.is (fails_missing_page (RemoveSpaceHalts c.in-RemoveSpace.space count) no_page (remove_space_misses c.in-RemoveSpace.space count no_page) (state old) (state c.remove_space.new.core) c.remove_space.result c.remove_space.ensures.cause)
+    rw c.in-RemoveSpace.is (fails_missing_page (RemoveSpaceHalts c.in-RemoveSpace.space count) no_page (remove_space_misses c.in-RemoveSpace.space count no_page) (state old) (state c.remove_space.new.core) c.remove_space.result c.remove_space.ensures.fails.cause)
 
 pub returns-in-Place-clause-missing : goal.returns-in-Place-clause-missing
 returns-in-Place-clause-missing g c = λ ss sees.
     let old = c.args.self.now.core in
     let count = old.intervals in
-    rw c.in-Place.is (fails_missing_page (PlaceHalts c.in-Place.page count) no_page (place_misses c.in-Place.page count no_page) (state old) (state c.place.new.core) c.place.result c.place.ensures.cause)
+    rw c.in-Place.is (fails_missing_page (PlaceHalts c.in-Place.page count) no_page (place_misses c.in-Place.page count no_page) (state old) (state c.place.new.core) c.place.result c.place.ensures.fails.cause)
 
 pub returns-in-Units-clause-missing : goal.returns-in-Units-clause-missing
 returns-in-Units-clause-missing g c = λ ss sees.
     let old = c.args.self.now.core in
     let count = old.intervals in
-    rw c.in-Units.is (fails_missing_page (ChangeHalts count) no_page (change_misses count no_page) (state old) (state c.set_units.new.core) c.set_units.result c.set_units.ensures.cause)
+    rw c.in-Units.is (fails_missing_page (ChangeHalts count) no_page (change_misses count no_page) (state old) (state c.set_units.new.core) c.set_units.result c.set_units.ensures.fails.cause)
 
 pub returns-in-Map-clause-missing : goal.returns-in-Map-clause-missing
 returns-in-Map-clause-missing g c = λ ss sees.
     let old = c.args.self.now.core in
     let count = old.intervals in
-    rw c.in-Map.is (fails_missing_page (MapFileHalts c.in-Map.space c.in-Map.id count) no_page (map_file_misses c.in-Map.space c.in-Map.id count no_page) (state old) (state c.map.new.core) c.map.result c.map.ensures.cause)
+    rw c.in-Map.is (fails_missing_page (MapFileHalts c.in-Map.space c.in-Map.id count) no_page (map_file_misses c.in-Map.space c.in-Map.id count no_page) (state old) (state c.map.new.core) c.map.result c.map.ensures.fails.cause)
 
 pub returns-in-MapAnonymous-clause-missing : goal.returns-in-MapAnonymous-clause-missing
 returns-in-MapAnonymous-clause-missing g c = λ ss sees.
@@ -753,76 +569,76 @@ pub returns-in-Protect-clause-missing : goal.returns-in-Protect-clause-missing
 returns-in-Protect-clause-missing g c = λ ss sees.
     let old = c.args.self.now.core in
     let count = old.intervals in
-    rw c.in-Protect.is (fails_missing_page (ProtectHalts c.in-Protect.space c.in-Protect.writable count) no_page (protect_misses c.in-Protect.space c.in-Protect.writable count no_page) (state old) (state c.protect.new.core) c.protect.result c.protect.ensures.cause)
+    rw c.in-Protect.is (fails_missing_page (ProtectHalts c.in-Protect.space c.in-Protect.writable count) no_page (protect_misses c.in-Protect.space c.in-Protect.writable count no_page) (state old) (state c.protect.new.core) c.protect.result c.protect.ensures.fails.cause)
 
 pub returns-in-Load-clause-missing : goal.returns-in-Load-clause-missing
-returns-in-Load-clause-missing g c = λ ss sees. rw c.in-Load.is (c.load.ensures.missing ss sees)
+returns-in-Load-clause-missing g c = λ ss sees. rw c.in-Load.is (c.load.ensures.fails.missing ss sees)
 
 pub returns-in-Store-clause-missing : goal.returns-in-Store-clause-missing
 returns-in-Store-clause-missing g c = λ ss sees.
     rw c.in-Store.is
-    (subst (λ (bs : List ℕ). IfErr c.store.result (MissesPage (shown_units ss c.in-Store.address (length bs)))) c.as_slice.ensures.bytes (c.store.ensures.missing ss sees))
+    (subst (λ (bs : List ℕ). IfErr c.store.result (MissesPage (shown_units ss c.in-Store.address (length bs)))) c.as_slice.ensures.bytes (c.store.ensures.fails.missing ss sees))
 
 pub returns-in-Activate-clause-missing : goal.returns-in-Activate-clause-missing
-returns-in-Activate-clause-missing g c = λ ss sees. rw c.in-Activate.is (c.activate.ensures.missing ss sees)
+returns-in-Activate-clause-missing g c = λ ss sees. rw c.in-Activate.is (c.activate.ensures.fails.missing ss sees)
 
 pub returns-in-Deactivate-clause-missing : goal.returns-in-Deactivate-clause-missing
 returns-in-Deactivate-clause-missing g c = λ ss sees.
     let old = c.args.self.now.core in
     let count = old.intervals in
-    rw c.in-Deactivate.is (fails_missing_page (λ v w e. ReachHalts (BreaksRange v count c.in-Deactivate.space) v w e) no_page (range_misses c.in-Deactivate.space count no_page) (state old) (state c.deactivate.new.core) c.deactivate.result c.deactivate.ensures.cause)
+    rw c.in-Deactivate.is (fails_missing_page (λ v w e. ReachHalts (BreaksRange v count c.in-Deactivate.space) v w e) no_page (range_misses c.in-Deactivate.space count no_page) (state old) (state c.deactivate.new.core) c.deactivate.result c.deactivate.ensures.fails.cause)
 
 pub returns-in-Kill-clause-missing : goal.returns-in-Kill-clause-missing
 returns-in-Kill-clause-missing g c = λ ss sees.
     let old = c.args.self.now.core in
     let count = old.intervals in
-    rw c.in-Kill.is (fails_missing_page (λ v w e. ReachHalts (BreaksRange v count c.in-Kill.space) v w e) no_page (range_misses c.in-Kill.space count no_page) (state old) (state c.kill.new.core) c.kill.result c.kill.ensures.cause)
+    rw c.in-Kill.is (fails_missing_page (λ v w e. ReachHalts (BreaksRange v count c.in-Kill.space) v w e) no_page (range_misses c.in-Kill.space count no_page) (state old) (state c.kill.new.core) c.kill.result c.kill.ensures.fails.cause)
 
 pub returns-in-ForceOut-clause-missing : goal.returns-in-ForceOut-clause-missing
 returns-in-ForceOut-clause-missing g c = λ ss sees.
     let old = c.args.self.now.core in
     let count = old.intervals in
-    rw c.in-ForceOut.is (fails_missing_page (λ v w e. ReachHalts (BreaksRange v count c.in-ForceOut.space) v w e) no_page (range_misses c.in-ForceOut.space count no_page) (state old) (state c.force_out.new.core) c.force_out.result c.force_out.ensures.cause)
+    rw c.in-ForceOut.is (fails_missing_page (λ v w e. ReachHalts (BreaksRange v count c.in-ForceOut.space) v w e) no_page (range_misses c.in-ForceOut.space count no_page) (state old) (state c.force_out.new.core) c.force_out.result c.force_out.ensures.fails.cause)
 
 -- ---- The space tables are seen.
 
 -- Labels that are not written.
 
 pub returns-in-MakeSpace-clause-unlabelled : goal.returns-in-MakeSpace-clause-unlabelled
-returns-in-MakeSpace-clause-unlabelled g c = λ keeps. pages_alone c.make_space.ensures.moves.goes.makes
+returns-in-MakeSpace-clause-unlabelled g c = λ keeps. pages_alone c.make_space.ensures.went.moves.goes.makes
 
 pub returns-in-RemoveSpace-clause-unlabelled : goal.returns-in-RemoveSpace-clause-unlabelled
-returns-in-RemoveSpace-clause-unlabelled g c = λ keeps. pages_alone c.remove_space.ensures.moves.goes.makes
+returns-in-RemoveSpace-clause-unlabelled g c = λ keeps. pages_alone c.remove_space.ensures.went.moves.goes.makes
 
 pub returns-in-Place-clause-unlabelled : goal.returns-in-Place-clause-unlabelled
-returns-in-Place-clause-unlabelled g c = λ keeps. pages_alone c.place.ensures.moves.goes.makes
+returns-in-Place-clause-unlabelled g c = λ keeps. pages_alone c.place.ensures.went.moves.goes.makes
 
 pub returns-in-Units-clause-unlabelled : goal.returns-in-Units-clause-unlabelled
-returns-in-Units-clause-unlabelled g c = λ keeps. pages_alone c.set_units.ensures.moves.goes.makes
+returns-in-Units-clause-unlabelled g c = λ keeps. pages_alone c.set_units.ensures.went.moves.goes.makes
 
 pub returns-in-Map-clause-unlabelled : goal.returns-in-Map-clause-unlabelled
-returns-in-Map-clause-unlabelled g c = λ keeps. pages_alone c.map.ensures.moves.goes.makes
+returns-in-Map-clause-unlabelled g c = λ keeps. pages_alone c.map.ensures.went.moves.goes.makes
 
 pub returns-in-Protect-clause-unlabelled : goal.returns-in-Protect-clause-unlabelled
-returns-in-Protect-clause-unlabelled g c = λ keeps. pages_alone c.protect.ensures.moves.goes.makes
+returns-in-Protect-clause-unlabelled g c = λ keeps. pages_alone c.protect.ensures.went.moves.goes.makes
 
 pub returns-in-Load-clause-unlabelled : goal.returns-in-Load-clause-unlabelled
-returns-in-Load-clause-unlabelled g c = λ keeps. pages_alone c.load.ensures.moves.goes.makes
+returns-in-Load-clause-unlabelled g c = λ keeps. pages_alone c.load.ensures.went.moves.goes.makes
 
 pub returns-in-Store-clause-unlabelled : goal.returns-in-Store-clause-unlabelled
-returns-in-Store-clause-unlabelled g c = λ keeps. pages_alone c.store.ensures.moves.goes.makes
+returns-in-Store-clause-unlabelled g c = λ keeps. pages_alone c.store.ensures.went.moves.goes.makes
 
 pub returns-in-Activate-clause-unlabelled : goal.returns-in-Activate-clause-unlabelled
-returns-in-Activate-clause-unlabelled g c = λ keeps. pages_alone c.activate.ensures.moves.goes.makes
+returns-in-Activate-clause-unlabelled g c = λ keeps. pages_alone c.activate.ensures.went.moves.goes.makes
 
 pub returns-in-Deactivate-clause-unlabelled : goal.returns-in-Deactivate-clause-unlabelled
-returns-in-Deactivate-clause-unlabelled g c = λ keeps. pages_alone c.deactivate.ensures.moves.goes.makes
+returns-in-Deactivate-clause-unlabelled g c = λ keeps. pages_alone c.deactivate.ensures.went.moves.goes.makes
 
 pub returns-in-Kill-clause-unlabelled : goal.returns-in-Kill-clause-unlabelled
-returns-in-Kill-clause-unlabelled g c = λ keeps. pages_alone c.kill.ensures.moves.goes.makes
+returns-in-Kill-clause-unlabelled g c = λ keeps. pages_alone c.kill.ensures.went.moves.goes.makes
 
 pub returns-in-ForceOut-clause-unlabelled : goal.returns-in-ForceOut-clause-unlabelled
-returns-in-ForceOut-clause-unlabelled g c = λ keeps. pages_alone c.force_out.ensures.moves.goes.makes
+returns-in-ForceOut-clause-unlabelled g c = λ keeps. pages_alone c.force_out.ensures.went.moves.goes.makes
 
 pub returns-in-MapAnonymous-clause-unlabelled : goal.returns-in-MapAnonymous-clause-unlabelled
 returns-in-MapAnonymous-clause-unlabelled g c = λ keeps. absurd (true≢false (sym keeps ∙ ap keeps_labels c.in-MapAnonymous.is))
@@ -833,40 +649,40 @@ returns-in-Unmap-clause-unlabelled g c = λ keeps. absurd (true≢false (sym kee
 -- ---- Which files are spared.
 
 pub returns-in-MakeSpace-clause-spares : goal.returns-in-MakeSpace-clause-spares
-returns-in-MakeSpace-clause-spares g c = λ id client other new. spares_quiet c.make_space.ensures.moves.goes.makes id client
+returns-in-MakeSpace-clause-spares g c = λ id client other new. spares_quiet c.make_space.ensures.went.moves.goes.makes id client
 
 pub returns-in-RemoveSpace-clause-spares : goal.returns-in-RemoveSpace-clause-spares
-returns-in-RemoveSpace-clause-spares g c = λ id client other new. spares_quiet c.remove_space.ensures.moves.goes.makes id client
+returns-in-RemoveSpace-clause-spares g c = λ id client other new. spares_quiet c.remove_space.ensures.went.moves.goes.makes id client
 
 pub returns-in-Place-clause-spares : goal.returns-in-Place-clause-spares
-returns-in-Place-clause-spares g c = λ id client other new. spares_quiet c.place.ensures.moves.goes.makes id client
+returns-in-Place-clause-spares g c = λ id client other new. spares_quiet c.place.ensures.went.moves.goes.makes id client
 
 pub returns-in-Units-clause-spares : goal.returns-in-Units-clause-spares
-returns-in-Units-clause-spares g c = λ id client other new. spares_quiet c.set_units.ensures.moves.goes.makes id client
+returns-in-Units-clause-spares g c = λ id client other new. spares_quiet c.set_units.ensures.went.moves.goes.makes id client
 
 pub returns-in-Map-clause-spares : goal.returns-in-Map-clause-spares
-returns-in-Map-clause-spares g c = λ id client other new. spares_quiet c.map.ensures.moves.goes.makes id client
+returns-in-Map-clause-spares g c = λ id client other new. spares_quiet c.map.ensures.went.moves.goes.makes id client
 
 pub returns-in-Protect-clause-spares : goal.returns-in-Protect-clause-spares
-returns-in-Protect-clause-spares g c = λ id client other new. spares_quiet c.protect.ensures.moves.goes.makes id client
+returns-in-Protect-clause-spares g c = λ id client other new. spares_quiet c.protect.ensures.went.moves.goes.makes id client
 
 pub returns-in-Load-clause-spares : goal.returns-in-Load-clause-spares
-returns-in-Load-clause-spares g c = λ id client other new. spares_quiet c.load.ensures.moves.goes.makes id client
+returns-in-Load-clause-spares g c = λ id client other new. spares_quiet c.load.ensures.went.moves.goes.makes id client
 
 pub returns-in-Store-clause-spares : goal.returns-in-Store-clause-spares
-returns-in-Store-clause-spares g c = λ id client other new. spares_quiet c.store.ensures.moves.goes.makes id client
+returns-in-Store-clause-spares g c = λ id client other new. spares_quiet c.store.ensures.went.moves.goes.makes id client
 
 pub returns-in-Activate-clause-spares : goal.returns-in-Activate-clause-spares
-returns-in-Activate-clause-spares g c = λ id client other new. spares_quiet c.activate.ensures.moves.goes.makes id client
+returns-in-Activate-clause-spares g c = λ id client other new. spares_quiet c.activate.ensures.went.moves.goes.makes id client
 
 pub returns-in-Deactivate-clause-spares : goal.returns-in-Deactivate-clause-spares
-returns-in-Deactivate-clause-spares g c = λ id client other new. spares_quiet c.deactivate.ensures.moves.goes.makes id client
+returns-in-Deactivate-clause-spares g c = λ id client other new. spares_quiet c.deactivate.ensures.went.moves.goes.makes id client
 
 pub returns-in-Kill-clause-spares : goal.returns-in-Kill-clause-spares
-returns-in-Kill-clause-spares g c = λ id client other new. spares_quiet c.kill.ensures.moves.goes.makes id client
+returns-in-Kill-clause-spares g c = λ id client other new. spares_quiet c.kill.ensures.went.moves.goes.makes id client
 
 pub returns-in-ForceOut-clause-spares : goal.returns-in-ForceOut-clause-spares
-returns-in-ForceOut-clause-spares g c = λ id client other new. spares_quiet c.force_out.ensures.moves.goes.makes id client
+returns-in-ForceOut-clause-spares g c = λ id client other new. spares_quiet c.force_out.ensures.went.moves.goes.makes id client
 
 pub returns-in-MapAnonymous-clause-spares : goal.returns-in-MapAnonymous-clause-spares
 returns-in-MapAnonymous-clause-spares g c = λ id client other new. c.map_anonymous.ensures.spares id client new
@@ -923,19 +739,19 @@ returns-in-ForceOut-clause-windows g c = λ o k n. on_or_more (mapped_by (next_i
 -- ---- Which pages it may make dirty.
 
 pub returns-in-MakeSpace-clause-shown : goal.returns-in-MakeSpace-clause-shown
-returns-in-MakeSpace-clause-shown g c = λ ss s. rw c.in-MakeSpace.is c.make_space.ensures.wrote
+returns-in-MakeSpace-clause-shown g c = λ ss s. rw c.in-MakeSpace.is c.make_space.ensures.went.wrote
 
 pub returns-in-RemoveSpace-clause-shown : goal.returns-in-RemoveSpace-clause-shown
-returns-in-RemoveSpace-clause-shown g c = λ ss s. rw c.in-RemoveSpace.is c.remove_space.ensures.wrote
+returns-in-RemoveSpace-clause-shown g c = λ ss s. rw c.in-RemoveSpace.is c.remove_space.ensures.went.wrote
 
 pub returns-in-Place-clause-shown : goal.returns-in-Place-clause-shown
-returns-in-Place-clause-shown g c = λ ss s. rw c.in-Place.is c.place.ensures.wrote
+returns-in-Place-clause-shown g c = λ ss s. rw c.in-Place.is c.place.ensures.went.wrote
 
 pub returns-in-Units-clause-shown : goal.returns-in-Units-clause-shown
-returns-in-Units-clause-shown g c = λ ss s. rw c.in-Units.is c.set_units.ensures.wrote
+returns-in-Units-clause-shown g c = λ ss s. rw c.in-Units.is c.set_units.ensures.went.wrote
 
 pub returns-in-Map-clause-shown : goal.returns-in-Map-clause-shown
-returns-in-Map-clause-shown g c = λ ss s. rw c.in-Map.is c.map.ensures.wrote
+returns-in-Map-clause-shown g c = λ ss s. rw c.in-Map.is c.map.ensures.went.wrote
 
 pub returns-in-MapAnonymous-clause-shown : goal.returns-in-MapAnonymous-clause-shown
 returns-in-MapAnonymous-clause-shown g c = λ ss s. rw c.in-MapAnonymous.is c.map_anonymous.ensures.wrote
@@ -944,10 +760,10 @@ pub returns-in-Unmap-clause-shown : goal.returns-in-Unmap-clause-shown
 returns-in-Unmap-clause-shown g c = λ ss s. rw c.in-Unmap.is c.unmap.ensures.wrote
 
 pub returns-in-Protect-clause-shown : goal.returns-in-Protect-clause-shown
-returns-in-Protect-clause-shown g c = λ ss s. rw c.in-Protect.is c.protect.ensures.wrote
+returns-in-Protect-clause-shown g c = λ ss s. rw c.in-Protect.is c.protect.ensures.went.wrote
 
 pub returns-in-Load-clause-shown : goal.returns-in-Load-clause-shown
-returns-in-Load-clause-shown g c = λ ss s. rw c.in-Load.is c.load.ensures.wrote
+returns-in-Load-clause-shown g c = λ ss s. rw c.in-Load.is c.load.ensures.went.wrote
 
 pub returns-in-Store-clause-shown : goal.returns-in-Store-clause-shown
 returns-in-Store-clause-shown g c = λ ss s.
@@ -956,78 +772,78 @@ returns-in-Store-clause-shown g c = λ ss s.
     rw c.in-Store.is (subst (λ (bs : List ℕ). WroteIn (IsTouchedOrOwn ss c.in-Store.address (length bs)) old.disk old.slots new.disk new.slots) c.as_slice.ensures.bytes (c.store.ensures.shown ss s))
 
 pub returns-in-Activate-clause-shown : goal.returns-in-Activate-clause-shown
-returns-in-Activate-clause-shown g c = λ ss s. rw c.in-Activate.is c.activate.ensures.wrote
+returns-in-Activate-clause-shown g c = λ ss s. rw c.in-Activate.is c.activate.ensures.went.wrote
 
 pub returns-in-Deactivate-clause-shown : goal.returns-in-Deactivate-clause-shown
-returns-in-Deactivate-clause-shown g c = λ ss s. rw c.in-Deactivate.is c.deactivate.ensures.wrote
+returns-in-Deactivate-clause-shown g c = λ ss s. rw c.in-Deactivate.is c.deactivate.ensures.went.wrote
 
 pub returns-in-Kill-clause-shown : goal.returns-in-Kill-clause-shown
-returns-in-Kill-clause-shown g c = λ ss s. rw c.in-Kill.is c.kill.ensures.wrote
+returns-in-Kill-clause-shown g c = λ ss s. rw c.in-Kill.is c.kill.ensures.went.wrote
 
 pub returns-in-ForceOut-clause-shown : goal.returns-in-ForceOut-clause-shown
-returns-in-ForceOut-clause-shown g c = λ ss s. rw c.in-ForceOut.is c.force_out.ensures.wrote
+returns-in-ForceOut-clause-shown g c = λ ss s. rw c.in-ForceOut.is c.force_out.ensures.went.wrote
 
 -- ---- What is written.
 
 pub returns-in-MakeSpace-clause-own : goal.returns-in-MakeSpace-clause-own
 returns-in-MakeSpace-clause-own g c =
     let root = c.args.self.now.volume.root in
-    allowed_asked c.make_space.result (next_id root) (counted root) root c.args.call.now c.make_space.ensures.moves.goes.makes
+    allowed_asked c.make_space.result (next_id root) (counted root) root c.args.call.now c.make_space.ensures.went.moves.goes.makes
 
 pub returns-in-RemoveSpace-clause-own : goal.returns-in-RemoveSpace-clause-own
 returns-in-RemoveSpace-clause-own g c =
     let root = c.args.self.now.volume.root in
-    allowed_asked c.remove_space.result (next_id root) (counted root) root c.args.call.now c.remove_space.ensures.moves.goes.makes
+    allowed_asked c.remove_space.result (next_id root) (counted root) root c.args.call.now c.remove_space.ensures.went.moves.goes.makes
 
 pub returns-in-Place-clause-own : goal.returns-in-Place-clause-own
 returns-in-Place-clause-own g c =
     let root = c.args.self.now.volume.root in
-    allowed_asked c.place.result (next_id root) (counted root) root c.args.call.now c.place.ensures.moves.goes.makes
+    allowed_asked c.place.result (next_id root) (counted root) root c.args.call.now c.place.ensures.went.moves.goes.makes
 
 pub returns-in-Units-clause-own : goal.returns-in-Units-clause-own
 returns-in-Units-clause-own g c =
     let root = c.args.self.now.volume.root in
-    allowed_asked c.set_units.result (next_id root) (counted root) root c.args.call.now c.set_units.ensures.moves.goes.makes
+    allowed_asked c.set_units.result (next_id root) (counted root) root c.args.call.now c.set_units.ensures.went.moves.goes.makes
 
 pub returns-in-Map-clause-own : goal.returns-in-Map-clause-own
 returns-in-Map-clause-own g c =
     let root = c.args.self.now.volume.root in
-    allowed_asked c.map.result (next_id root) (counted root) root c.args.call.now c.map.ensures.moves.goes.makes
+    allowed_asked c.map.result (next_id root) (counted root) root c.args.call.now c.map.ensures.went.moves.goes.makes
 
 pub returns-in-Protect-clause-own : goal.returns-in-Protect-clause-own
 returns-in-Protect-clause-own g c =
     let root = c.args.self.now.volume.root in
-    allowed_asked c.protect.result (next_id root) (counted root) root c.args.call.now c.protect.ensures.moves.goes.makes
+    allowed_asked c.protect.result (next_id root) (counted root) root c.args.call.now c.protect.ensures.went.moves.goes.makes
 
 pub returns-in-Load-clause-own : goal.returns-in-Load-clause-own
 returns-in-Load-clause-own g c =
     let root = c.args.self.now.volume.root in
-    allowed_asked c.load.result (next_id root) (counted root) root c.args.call.now c.load.ensures.moves.goes.makes
+    allowed_asked c.load.result (next_id root) (counted root) root c.args.call.now c.load.ensures.went.moves.goes.makes
 
 pub returns-in-Store-clause-own : goal.returns-in-Store-clause-own
 returns-in-Store-clause-own g c =
     let root = c.args.self.now.volume.root in
-    allowed_asked c.store.result (next_id root) (counted root) root c.args.call.now c.store.ensures.moves.goes.makes
+    allowed_asked c.store.result (next_id root) (counted root) root c.args.call.now c.store.ensures.went.moves.goes.makes
 
 pub returns-in-Activate-clause-own : goal.returns-in-Activate-clause-own
 returns-in-Activate-clause-own g c =
     let root = c.args.self.now.volume.root in
-    allowed_asked c.activate.result (next_id root) (counted root) root c.args.call.now c.activate.ensures.moves.goes.makes
+    allowed_asked c.activate.result (next_id root) (counted root) root c.args.call.now c.activate.ensures.went.moves.goes.makes
 
 pub returns-in-Deactivate-clause-own : goal.returns-in-Deactivate-clause-own
 returns-in-Deactivate-clause-own g c =
     let root = c.args.self.now.volume.root in
-    allowed_asked c.deactivate.result (next_id root) (counted root) root c.args.call.now c.deactivate.ensures.moves.goes.makes
+    allowed_asked c.deactivate.result (next_id root) (counted root) root c.args.call.now c.deactivate.ensures.went.moves.goes.makes
 
 pub returns-in-Kill-clause-own : goal.returns-in-Kill-clause-own
 returns-in-Kill-clause-own g c =
     let root = c.args.self.now.volume.root in
-    allowed_asked c.kill.result (next_id root) (counted root) root c.args.call.now c.kill.ensures.moves.goes.makes
+    allowed_asked c.kill.result (next_id root) (counted root) root c.args.call.now c.kill.ensures.went.moves.goes.makes
 
 pub returns-in-ForceOut-clause-own : goal.returns-in-ForceOut-clause-own
 returns-in-ForceOut-clause-own g c =
     let root = c.args.self.now.volume.root in
-    allowed_asked c.force_out.result (next_id root) (counted root) root c.args.call.now c.force_out.ensures.moves.goes.makes
+    allowed_asked c.force_out.result (next_id root) (counted root) root c.args.call.now c.force_out.ensures.went.moves.goes.makes
 
 pub returns-in-MapAnonymous-clause-own : goal.returns-in-MapAnonymous-clause-own
 returns-in-MapAnonymous-clause-own g c =

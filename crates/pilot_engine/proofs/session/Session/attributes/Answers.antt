@@ -33,7 +33,7 @@ returns-in-Ok-None-clause-wrote g c = wrote_by c.named_file.ensures.looks.makes 
 pub returns-in-Err-clause-answers : goal.returns-in-Err-clause-answers
 returns-in-Err-clause-answers g c = λ m r. record {
   carried = tt;
-  sound = (c.in-Err.ensures.sound c.args.self.now.volume m r);
+  sound = (c.in-Err.ensures.answer c.args.self.now.volume m r);
   passes = (asked_passes c.args.self.now.core c.args.self.now.volume m (call.Attributes c.args.id) r (g.met.D.Disk.in_form (disk_of c.args.self.now.core.filer)) c.named_file.ensures.looks.makes);
   came = λ quiet. tt;
   cost = (asked_inside (state c.args.self.now.core).disk (state c.named_file.new.core).disk 14561 (omega arith) c.named_file.ensures.cost);
@@ -77,10 +77,10 @@ returns-in-Err-clause-accounts g c = λ o k. record {
   reasons = (let old = c.args.self.now.core in
       let count = old.intervals in
       shows_after (NamedHalts c.args.id count) (named_reasons c.args.id count)
-      o (state old) (state c.named_file.new.core) (accepted old.filer) c.named_file.ensures.looks.reaches.goes.makes k c.in-Err.halt c.in-Err.ensures.cause);
+      o (state old) (state c.named_file.new.core) (accepted old.filer) c.named_file.ensures.looks.reaches.goes.makes k c.in-Err.halt c.in-Err.ensures.fails.cause);
   sees = (λ seen. let old = c.args.self.now.core in
       let new = c.named_file.new.core in
-      (never_blames_form c.in-Err.halt (c.in-Err.ensures.right (seen.0, seen.1.0)), named_misses (file_pages o (state new).disk) c.args.id old.intervals (state old) (state new) c.in-Err.halt c.in-Err.ensures.cause));
+      (never_blames_form c.in-Err.halt (c.in-Err.ensures.fails.right (seen.0, seen.1.0)), named_misses (file_pages o (state new).disk) c.args.id old.intervals (state old) (state new) c.in-Err.halt c.in-Err.ensures.fails.cause));
 }
 
 -- ---- What is seen of the space tables, and which page is reported as missing.

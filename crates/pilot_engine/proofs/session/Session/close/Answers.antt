@@ -25,6 +25,7 @@ use Rattle.labelled_disk.specs.declared.layout.Layout.{Layout}
 use Rattle.file_manager.specs.Reasons.{ShowsReason}
 use Rattle.pilot_engine.proofs.SparedCalls.{all_then, spares_quiet}
 use Rattle.pilot_engine.proofs.session.Session.close.Goals as goal
+use Rattle.space_calls.specs.OutcomesLaws.{waited_rose}
 use Rattle.filer_kernel.specs.View.{accepted, disk_of}
 
 pub returns-in-Err-empty-clause-sound : goal.returns-in-Err-empty-clause-sound
@@ -46,16 +47,16 @@ pub returns-in-Err-write_clean-clause-wrote : goal.returns-in-Err-write_clean-cl
 returns-in-Err-write_clean-clause-wrote g c = shut_then (wrote_then (wrote_then c.evict_all.ensures.wrote c.empty.ensures.wrote) (wrote_swapping c.sync_maps.ensures.swaps)) (only_then (only_then c.evict_all.ensures.spares.frees c.empty.ensures.spares.frees) (frees_none c.sync_maps.ensures.swaps.makes)) (any_root_is (ap (λ (v : Volume). v.root) c.sync_maps.ensures.volume ∙ c.empty.ensures.spares.root ∙ ap (λ (v : Volume). v.root) c.evict_all.ensures.volume) c.write_clean.ensures.wrote)
 
 pub returns-in-Ok-sync-clause-wrote : goal.returns-in-Ok-sync-clause-wrote
-returns-in-Ok-sync-clause-wrote g c = shut_still (shut_then (wrote_then (wrote_then c.evict_all.ensures.wrote c.empty.ensures.wrote) (wrote_swapping c.sync_maps.ensures.swaps)) (only_then (only_then c.evict_all.ensures.spares.frees c.empty.ensures.spares.frees) (frees_none c.sync_maps.ensures.swaps.makes)) (any_root_is (ap (λ (v : Volume). v.root) c.sync_maps.ensures.volume ∙ c.empty.ensures.spares.root ∙ ap (λ (v : Volume). v.root) c.evict_all.ensures.volume) c.write_clean.ensures.wrote)) c.sync.ensures.same (wrote_by (reached_makes c.sync.ensures.reaches) tt)
+returns-in-Ok-sync-clause-wrote g c = shut_still (shut_then (wrote_then (wrote_then c.evict_all.ensures.wrote c.empty.ensures.wrote) (wrote_swapping c.sync_maps.ensures.swaps)) (only_then (only_then c.evict_all.ensures.spares.frees c.empty.ensures.spares.frees) (frees_none c.sync_maps.ensures.swaps.makes)) (any_root_is (ap (λ (v : Volume). v.root) c.sync_maps.ensures.volume ∙ c.empty.ensures.spares.root ∙ ap (λ (v : Volume). v.root) c.evict_all.ensures.volume) c.write_clean.ensures.wrote)) c.sync.ensures.waits.same (wrote_by (reached_makes c.sync.ensures.waits.reaches) tt)
 
 pub returns-in-Err-sync-clause-wrote : goal.returns-in-Err-sync-clause-wrote
-returns-in-Err-sync-clause-wrote g c = shut_still (shut_then (wrote_then (wrote_then c.evict_all.ensures.wrote c.empty.ensures.wrote) (wrote_swapping c.sync_maps.ensures.swaps)) (only_then (only_then c.evict_all.ensures.spares.frees c.empty.ensures.spares.frees) (frees_none c.sync_maps.ensures.swaps.makes)) (any_root_is (ap (λ (v : Volume). v.root) c.sync_maps.ensures.volume ∙ c.empty.ensures.spares.root ∙ ap (λ (v : Volume). v.root) c.evict_all.ensures.volume) c.write_clean.ensures.wrote)) c.sync.ensures.same (wrote_by (reached_makes c.sync.ensures.reaches) tt)
+returns-in-Err-sync-clause-wrote g c = shut_still (shut_then (wrote_then (wrote_then c.evict_all.ensures.wrote c.empty.ensures.wrote) (wrote_swapping c.sync_maps.ensures.swaps)) (only_then (only_then c.evict_all.ensures.spares.frees c.empty.ensures.spares.frees) (frees_none c.sync_maps.ensures.swaps.makes)) (any_root_is (ap (λ (v : Volume). v.root) c.sync_maps.ensures.volume ∙ c.empty.ensures.spares.root ∙ ap (λ (v : Volume). v.root) c.evict_all.ensures.volume) c.write_clean.ensures.wrote)) c.sync.ensures.waits.same (wrote_by (reached_makes c.sync.ensures.waits.reaches) tt)
 
 pub returns-in-Ok-sync-clause-closed : goal.returns-in-Ok-sync-clause-closed
 returns-in-Ok-sync-clause-closed g c = λ m r.
     let e = c.in-Ok-empty.ensures.emptied root_alone (forgotten m) (c.in-Ok.ensures.alone m r) in
     let ready = made_ready (forgotten m) _ _ _ _ _ e c.sync_maps.ensures.swaps c.in-Ok-sync_maps.ensures.clean in
-    shut_same m _ (has_shut (forgotten m) _ _ _ _ _ c.sync_maps.ensures.volume ready (c.in-Ok-write_clean.ensures.made (forgotten m)) c.sync.ensures.same.contents c.in-Ok-sync.ensures.synced)
+    shut_same m _ (has_shut (forgotten m) _ _ _ _ _ c.sync_maps.ensures.volume ready (c.in-Ok-write_clean.ensures.made (forgotten m)) c.sync.ensures.waits.same.contents c.in-Ok-sync.ensures.synced)
 
 pub returns-in-Err-clause-stops : goal.returns-in-Err-clause-stops
 returns-in-Err-clause-stops g c = λ m r. throughout_less (IsOpenStop m) (IsStop m) (open_is_stop m) (c.evict_all.ensures.stops m r)
@@ -98,7 +99,7 @@ returns-in-Ok-sync-clause-stops g c = λ m r.
     let ready = made_ready n _ _ _ _ _ e c.sync_maps.ensures.swaps c.in-Ok-sync_maps.ensures.clean in
     let now = subst (λ (v : Volume). IsReady n v.root (state c.sync_maps.new.self.core).disk) (sym c.sync_maps.ensures.volume) ready in
     let all = throughout_then (IsStop n) (throughout_less (IsOpenStop n) (IsStop n) (open_is_stop n) maps) (c.write_clean.ensures.stops n now (ends (IsOpenStop n) maps)) in
-    throughout_still (IsStop m) (stops_closed m r.session.stands.is.by.machine (c.evict_all.ensures.stops m r) all) c.sync.ensures.same
+    throughout_still (IsStop m) (stops_closed m r.session.stands.is.by.machine (c.evict_all.ensures.stops m r) all) c.sync.ensures.waits.same
 
 pub returns-in-Err-sync-clause-stops : goal.returns-in-Err-sync-clause-stops
 returns-in-Err-sync-clause-stops g c = λ m r.
@@ -110,7 +111,7 @@ returns-in-Err-sync-clause-stops g c = λ m r.
     let ready = made_ready n _ _ _ _ _ e c.sync_maps.ensures.swaps c.in-Ok-sync_maps.ensures.clean in
     let now = subst (λ (v : Volume). IsReady n v.root (state c.sync_maps.new.self.core).disk) (sym c.sync_maps.ensures.volume) ready in
     let all = throughout_then (IsStop n) (throughout_less (IsOpenStop n) (IsStop n) (open_is_stop n) maps) (c.write_clean.ensures.stops n now (ends (IsOpenStop n) maps)) in
-    throughout_still (IsStop m) (stops_closed m r.session.stands.is.by.machine (c.evict_all.ensures.stops m r) all) c.sync.ensures.same
+    throughout_still (IsStop m) (stops_closed m r.session.stands.is.by.machine (c.evict_all.ensures.stops m r) all) c.sync.ensures.waits.same
 
 pub returns-in-Err-empty-clause-counted : goal.returns-in-Err-empty-clause-counted
 returns-in-Err-empty-clause-counted g c = counted_then _ _ _ c.evict_all.ensures.wrote.makes.went.faults c.in-Err-empty.ensures.counted
@@ -122,7 +123,7 @@ pub returns-in-Err-write_clean-clause-counted : goal.returns-in-Err-write_clean-
 returns-in-Err-write_clean-clause-counted g c = λ is. rose_after _ _ _ (wrote_then (wrote_then c.evict_all.ensures.wrote c.empty.ensures.wrote) (wrote_swapping c.sync_maps.ensures.swaps)).makes.went.faults c.in-Err-write_clean.ensures.counted
 
 pub returns-in-Err-sync-clause-counted : goal.returns-in-Err-sync-clause-counted
-returns-in-Err-sync-clause-counted g c = λ is. rose_after _ _ _ (shut_then (wrote_then (wrote_then c.evict_all.ensures.wrote c.empty.ensures.wrote) (wrote_swapping c.sync_maps.ensures.swaps)) (only_then (only_then c.evict_all.ensures.spares.frees c.empty.ensures.spares.frees) (frees_none c.sync_maps.ensures.swaps.makes)) c.write_clean.ensures.wrote).makes.went.faults c.in-Err-sync.ensures.counted
+returns-in-Err-sync-clause-counted g c = λ is. rose_after _ _ _ (shut_then (wrote_then (wrote_then c.evict_all.ensures.wrote c.empty.ensures.wrote) (wrote_swapping c.sync_maps.ensures.swaps)) (only_then (only_then c.evict_all.ensures.spares.frees c.empty.ensures.spares.frees) (frees_none c.sync_maps.ensures.swaps.makes)) c.write_clean.ensures.wrote).makes.went.faults (waited_rose c.in-Err-sync.ensures.fails)
 
 pub returns-in-Err-clause-cost : goal.returns-in-Err-clause-cost
 returns-in-Err-clause-cost g c = λ m r.
@@ -195,13 +196,13 @@ pub returns-in-Err-write_clean-clause-left_open : goal.returns-in-Err-write_clea
 returns-in-Err-write_clean-clause-left_open g c = λ unset. rw c.in-Err-write_clean.ensures.fault tt
 
 pub returns-in-Err-sync-clause-left_open : goal.returns-in-Err-sync-clause-left_open
-returns-in-Err-sync-clause-left_open g c = λ unset. rw c.in-Err-sync.ensures.fault tt
+returns-in-Err-sync-clause-left_open g c = λ unset. rw c.in-Err-sync.ensures.fails.cause tt
 
 pub returns-in-Err-write_clean-clause-evidence_seen : goal.returns-in-Err-write_clean-clause-evidence_seen
 returns-in-Err-write_clean-clause-evidence_seen g c = rw c.in-Err-write_clean.ensures.fault tt
 
 pub returns-in-Err-sync-clause-evidence_seen : goal.returns-in-Err-sync-clause-evidence_seen
-returns-in-Err-sync-clause-evidence_seen g c = rw c.in-Err-sync.ensures.fault tt
+returns-in-Err-sync-clause-evidence_seen g c = rw c.in-Err-sync.ensures.fails.cause tt
 
 -- ---- Why it failed.
 
@@ -233,7 +234,7 @@ returns-in-Err-sync-clause-cause g c =
     let v = state c.args.self.now.core in
     let x = state c.write_clean.new.self.core in
     let w = state c.sync.new.core in
-    inl (fault_halt (BreaksWithin v c.args.self.now.core.intervals 0 root_pages) v x w c.in-Err-sync.halt (shut_then (wrote_then (wrote_then c.evict_all.ensures.wrote c.empty.ensures.wrote) (wrote_swapping c.sync_maps.ensures.swaps)) (only_then (only_then c.evict_all.ensures.spares.frees c.empty.ensures.spares.frees) (frees_none c.sync_maps.ensures.swaps.makes)) c.write_clean.ensures.wrote).makes.went.faults c.in-Err-sync.ensures.fault c.in-Err-sync.ensures.counted)
+    inl (fault_halt (BreaksWithin v c.args.self.now.core.intervals 0 root_pages) v x w c.in-Err-sync.halt (shut_then (wrote_then (wrote_then c.evict_all.ensures.wrote c.empty.ensures.wrote) (wrote_swapping c.sync_maps.ensures.swaps)) (only_then (only_then c.evict_all.ensures.spares.frees c.empty.ensures.spares.frees) (frees_none c.sync_maps.ensures.swaps.makes)) c.write_clean.ensures.wrote).makes.went.faults c.in-Err-sync.ensures.fails.cause (waited_rose c.in-Err-sync.ensures.fails))
 
 -- ---- What began stays a reason.
 
@@ -250,7 +251,7 @@ pub returns-in-Err-write_clean-clause-reasons : goal.returns-in-Err-write_clean-
 returns-in-Err-write_clean-clause-reasons g c = λ o keeps. rw c.in-Err-write_clean.ensures.fault tt
 
 pub returns-in-Err-sync-clause-reasons : goal.returns-in-Err-sync-clause-reasons
-returns-in-Err-sync-clause-reasons g c = λ o keeps. rw c.in-Err-sync.ensures.fault tt
+returns-in-Err-sync-clause-reasons g c = λ o keeps. rw c.in-Err-sync.ensures.fails.cause tt
 
 -- ---- No page of the space tables is reported as broken, and none of a file as missing that was nowhere at home.
 
@@ -264,7 +265,7 @@ pub returns-in-Err-write_clean-clause-sees : goal.returns-in-Err-write_clean-cla
 returns-in-Err-write_clean-clause-sees g c = λ o keeps seen. rw c.in-Err-write_clean.ensures.fault (tt, tt)
 
 pub returns-in-Err-sync-clause-sees : goal.returns-in-Err-sync-clause-sees
-returns-in-Err-sync-clause-sees g c = λ o keeps seen. rw c.in-Err-sync.ensures.fault (tt, tt)
+returns-in-Err-sync-clause-sees g c = λ o keeps seen. rw c.in-Err-sync.ensures.fails.cause (tt, tt)
 
 -- ---- The flag is set after a sync.
 
@@ -297,7 +298,7 @@ returns-in-Ok-sync-clause-syncs g c = λ m r.
     let now = subst (λ (v : Volume). IsReady n v.root (state c.sync_maps.new.self.core).disk) (sym c.sync_maps.ensures.volume) ready in
     let disk = (disk_of c.sync_maps.new.self.core.filer) in
     sets_shut (wrote_then (wrote_then c.evict_all.ensures.wrote c.empty.ensures.wrote) (wrote_swapping c.sync_maps.ensures.swaps)) (g.met.D.Disk.sync_counts disk) c.in-Ok-sync_maps.ensures.synced
-    (went_then c.write_clean.ensures.wrote.makes.went (reached_makes c.sync.ensures.reaches).went) c.sync_maps.new.self.volume.root c.sync.ensures.same (c.write_clean.ensures.sets n now)
+    (went_then c.write_clean.ensures.wrote.makes.went (reached_makes c.sync.ensures.waits.reaches).went) c.sync_maps.new.self.volume.root c.sync.ensures.waits.same (c.write_clean.ensures.sets n now)
 
 pub returns-in-Err-sync-clause-syncs : goal.returns-in-Err-sync-clause-syncs
 returns-in-Err-sync-clause-syncs g c = λ m r.
@@ -307,7 +308,7 @@ returns-in-Err-sync-clause-syncs g c = λ m r.
     let now = subst (λ (v : Volume). IsReady n v.root (state c.sync_maps.new.self.core).disk) (sym c.sync_maps.ensures.volume) ready in
     let disk = (disk_of c.sync_maps.new.self.core.filer) in
     sets_shut (wrote_then (wrote_then c.evict_all.ensures.wrote c.empty.ensures.wrote) (wrote_swapping c.sync_maps.ensures.swaps)) (g.met.D.Disk.sync_counts disk) c.in-Ok-sync_maps.ensures.synced
-    (went_then c.write_clean.ensures.wrote.makes.went (reached_makes c.sync.ensures.reaches).went) c.sync_maps.new.self.volume.root c.sync.ensures.same (c.write_clean.ensures.sets n now)
+    (went_then c.write_clean.ensures.wrote.makes.went (reached_makes c.sync.ensures.waits.reaches).went) c.sync_maps.new.self.volume.root c.sync.ensures.waits.same (c.write_clean.ensures.sets n now)
 
 -- ---- What its first part tells.
 
@@ -332,7 +333,7 @@ pub returns-in-Err-write_clean-clause-spares : goal.returns-in-Err-write_clean-c
 returns-in-Err-write_clean-clause-spares g c = all_then (all_then (all_then c.evict_all.ensures.spares.spares c.empty.ensures.spares.spares) (spares_quiet c.sync_maps.ensures.swaps.makes)) c.write_clean.ensures.spares
 
 pub returns-in-Ok-sync-clause-spares : goal.returns-in-Ok-sync-clause-spares
-returns-in-Ok-sync-clause-spares g c = all_then (all_then (all_then (all_then c.evict_all.ensures.spares.spares c.empty.ensures.spares.spares) (spares_quiet c.sync_maps.ensures.swaps.makes)) c.write_clean.ensures.spares) (spares_quiet (reached_makes c.sync.ensures.reaches))
+returns-in-Ok-sync-clause-spares g c = all_then (all_then (all_then (all_then c.evict_all.ensures.spares.spares c.empty.ensures.spares.spares) (spares_quiet c.sync_maps.ensures.swaps.makes)) c.write_clean.ensures.spares) (spares_quiet (reached_makes c.sync.ensures.waits.reaches))
 
 pub returns-in-Err-sync-clause-spares : goal.returns-in-Err-sync-clause-spares
-returns-in-Err-sync-clause-spares g c = all_then (all_then (all_then (all_then c.evict_all.ensures.spares.spares c.empty.ensures.spares.spares) (spares_quiet c.sync_maps.ensures.swaps.makes)) c.write_clean.ensures.spares) (spares_quiet (reached_makes c.sync.ensures.reaches))
+returns-in-Err-sync-clause-spares g c = all_then (all_then (all_then (all_then c.evict_all.ensures.spares.spares c.empty.ensures.spares.spares) (spares_quiet c.sync_maps.ensures.swaps.makes)) c.write_clean.ensures.spares) (spares_quiet (reached_makes c.sync.ensures.waits.reaches))

@@ -78,7 +78,7 @@ returns-in-Ok-Some-clause-wrote g c = wrote_by (makes_then c.sight.ensures.makes
 pub returns-in-Err-window_on-clause-answers : goal.returns-in-Err-window_on-clause-answers
 returns-in-Err-window_on-clause-answers g c = λ m r. record {
   carried = tt;
-  sound = (c.in-Err-window_on.ensures.sound c.sight.new.self.volume m (c.sight.ensures.runs m r));
+  sound = (c.in-Err-window_on.ensures.answer c.sight.new.self.volume m (c.sight.ensures.runs m r));
   passes = (asked_passes c.args.self.now.core c.args.self.now.volume m (call.MakeImmutable c.args.id) r (g.met.D.Disk.in_form (disk_of c.args.self.now.core.filer)) (makes_then c.sight.ensures.makes c.window_on.ensures.looks.makes));
   came = λ quiet. tt;
   cost = (asked_inside (state c.args.self.now.core).disk (state c.window_on.new.core).disk 29064 (omega arith) (let first = c.sight.ensures.cost in let later = c.window_on.ensures.cost in omega (arith, first, later)));
@@ -147,7 +147,7 @@ pub returns-in-Err-window_on-clause-cause : goal.returns-in-Err-window_on-clause
 returns-in-Err-window_on-clause-cause g c =
     let old = c.args.self.now.core in
     let u = c.sight.new.self.core in
-    inl (later_sight (state old) (state u) (accepted old.filer) c.sight.ensures.reaches old.intervals u.intervals c.sight.ensures.intervals (state c.window_on.new.core) c.in-Err-window_on.halt c.in-Err-window_on.ensures.cause)
+    inl (later_sight (state old) (state u) (accepted old.filer) c.sight.ensures.reaches old.intervals u.intervals c.sight.ensures.intervals (state c.window_on.new.core) c.in-Err-window_on.halt c.in-Err-window_on.ensures.fails.cause)
 
 pub returns-clause-cause : goal.returns-clause-cause
 returns-clause-cause g c =
@@ -185,12 +185,12 @@ returns-in-Err-window_on-clause-accounts g c = λ o k. record {
   reasons = (let u = c.sight.new.self.core in
       shows_since o (state c.window_on.new.core).disk c.in-Err-window_on.halt c.sight.ensures.layout
       (shows_after (SightHalts u.intervals) (sight_reasons u.intervals) o (state u) (state c.window_on.new.core) (accepted u.filer) c.window_on.ensures.looks.reaches.goes.makes
-      ((c.in-Ok-By.ensures.accounts o k).keeps_to) c.in-Err-window_on.halt c.in-Err-window_on.ensures.cause));
+      ((c.in-Ok-By.ensures.accounts o k).keeps_to) c.in-Err-window_on.halt c.in-Err-window_on.ensures.fails.cause));
   sees = (λ seen. let u = c.sight.new.self.core in
       let new = c.window_on.new.core in
       let there = (c.in-Ok-By.ensures.accounts o k).sees seen in (
-        never_blames_form c.in-Err-window_on.halt (c.in-Err-window_on.ensures.right (there.0, there.1.0)),
-        sight_misses (file_pages o (state new).disk) u.intervals (state u) (state new) c.in-Err-window_on.halt c.in-Err-window_on.ensures.cause,
+        never_blames_form c.in-Err-window_on.halt (c.in-Err-window_on.ensures.fails.right (there.0, there.1.0)),
+        sight_misses (file_pages o (state new).disk) u.intervals (state u) (state new) c.in-Err-window_on.halt c.in-Err-window_on.ensures.fails.cause,
       ));
 }
 

@@ -157,24 +157,24 @@ returns-clause-answers g c = λ m r. record {
       let made = created m r.session.stands.is.by.machine c.args.space c.in-Ok-Ok.run' can c.create.new.self.core c.create.new.self.volume c.in-File.id (subst (λ (a : Reply). Carried m (call.Create c.in-Ok-Ok.run'.1 0) c.create.new.self.core c.create.new.self.volume a) c.in-File.is (carried_out c.can_map.new.core c.create.new.self.core c.args.self.now.volume c.create.new.self.volume m (call.Create c.in-Ok-Ok.run'.1 0) c.create.ensures.kept c.create.ensures.intervals refl (asked_runs c.args.self.now.core (accepted c.args.self.now.core.filer) c.requires.size c.can_map.new.core c.args.self.now.volume m c.can_map.ensures.asked r) (Ok c.in-Ok.made) (λ spaces_of s. c.in-Ok.ensures.carried spaces_of m s))) in
       asked_then m (call.MapAnonymous c.args.space) (asked_passes c.args.self.now.core c.args.self.now.volume m call.Volume r (g.met.D.Disk.in_form (disk_of c.args.self.now.core.filer)) (reached_makes c.can_map.ensures.asked.reaches))
       (then_quiet m _ (call.Create c.in-Ok-Ok.run'.1 0) (call.MapAnonymous c.args.space) (c.create.ensures.passes _ m (asked_runs c.args.self.now.core (accepted c.args.self.now.core.filer) c.requires.size c.can_map.new.core c.args.self.now.volume m c.can_map.ensures.asked r).session)
-      (asked_passes c.create.new.self.core c.create.new.self.volume _ call.Volume made.runs (g.met.D.Disk.in_form (disk_of c.create.new.self.core.filer)) c.give_window.ensures.makes) refl refl (created_alike m r.session.stands.is.by.machine c.args.space c.in-Ok-Ok.run' can) (mapped_alike m r.session.stands.is.by.machine c.args.space c.in-Ok-Ok.run' can made.free)
+      (asked_passes c.create.new.self.core c.create.new.self.volume _ call.Volume made.runs (g.met.D.Disk.in_form (disk_of c.create.new.self.core.filer)) c.give_window.ensures.went.makes) refl refl (created_alike m r.session.stands.is.by.machine c.args.space c.in-Ok-Ok.run' can) (mapped_alike m r.session.stands.is.by.machine c.args.space c.in-Ok-Ok.run' can made.free)
       (created_numbers m r.session.stands.is.by.machine c.args.space c.in-Ok-Ok.run' can) (mapped_numbers m r.session.stands.is.by.machine c.args.space c.in-Ok-Ok.run' can made.free)));
-  came = λ quiet. ok_always c.give_window.result _ (brings_then (brings_then c.can_map.ensures.asked.came (c.in-Ok.ensures.came _ m (asked_runs c.args.self.now.core (accepted c.args.self.now.core.filer) c.requires.size c.can_map.new.core c.args.self.now.volume m c.can_map.ensures.asked r).session)) c.give_window.ensures.came);
+  came = λ quiet. ok_always c.give_window.result _ (brings_then (brings_then c.can_map.ensures.asked.came (c.in-Ok.ensures.came _ m (asked_runs c.args.self.now.core (accepted c.args.self.now.core.filer) c.requires.size c.can_map.new.core c.args.self.now.volume m c.can_map.ensures.asked r).session)) c.give_window.ensures.went.came);
   cost = (spent_around (state c.args.self.now.core).disk (state c.can_map.new.core).disk (state c.create.new.self.core).disk (state c.give_window.new.core).disk (reached_makes c.can_map.ensures.asked.reaches).went.sectors (let few = c.can_map.ensures.cost in omega (arith, few)) c.create.ensures.bounded (let few = c.give_window.ensures.cost in omega (arith, few)));
 }
 
 pub returns-clause-wrote : goal.returns-clause-wrote
-returns-clause-wrote g c = wrote_then (wrote_by (reached_makes c.can_map.ensures.asked.reaches) tt) (wrote_then c.create.ensures.wrote (wrote_by c.give_window.ensures.makes tt))
+returns-clause-wrote g c = wrote_then (wrote_by (reached_makes c.can_map.ensures.asked.reaches) tt) (wrote_then c.create.ensures.wrote (wrote_by c.give_window.ensures.went.makes tt))
 
 pub returns-clause-counted : goal.returns-clause-counted
-returns-clause-counted g c = λ is. rose_after _ _ _ (reached_makes c.can_map.ensures.asked.reaches).went.faults (rose_after _ _ _ c.create.ensures.wrote.makes.went.faults (c.give_window.ensures.counted is))
+returns-clause-counted g c = λ is. rose_after _ _ _ (reached_makes c.can_map.ensures.asked.reaches).went.faults (rose_after _ _ _ c.create.ensures.wrote.makes.went.faults (c.give_window.ensures.fails.counted is))
 
 pub returns-clause-stays : goal.returns-clause-stays
 returns-clause-stays g c = record {
-  open_still = (still_open _ _ _ _ c.create.ensures.stays.open_still c.give_window.ensures.layout refl);
+  open_still = (still_open _ _ _ _ c.create.ensures.stays.open_still c.give_window.ensures.went.moves.layout refl);
   monotone = (search rules);
   serial = (search rules);
-  layout = (c.give_window.ensures.layout ∙ c.create.ensures.stays.layout ∙ c.can_map.ensures.asked.reaches.layout);
+  layout = (c.give_window.ensures.went.moves.layout ∙ c.create.ensures.stays.layout ∙ c.can_map.ensures.asked.reaches.layout);
 }
 
 pub returns-in-Err-clause-evidence_seen : goal.returns-in-Err-clause-evidence_seen
@@ -196,7 +196,7 @@ returns-clause-cause g c =
     let w = state c.give_window.new.core in
     let asked = c.can_map.ensures.asked in
     err_wider c.give_window.result (ChangeHalts x.intervals (state x) w) (MapNewHalts (next_id c.args.self.now.volume.root) old.intervals (state old) w)
-    (λ e halts. inr (state u, asked.reaches, inr (state x, (c.create.ensures.wrote, c.create.ensures.stays.layout), counted_change (state x) w old.intervals x.intervals (c.create.ensures.intervals ∙ asked.intervals) e halts))) c.give_window.ensures.cause
+    (λ e halts. inr (state u, asked.reaches, inr (state x, (c.create.ensures.wrote, c.create.ensures.stays.layout), counted_change (state x) w old.intervals x.intervals (c.create.ensures.intervals ∙ asked.intervals) e halts))) c.give_window.ensures.fails.cause
 
 -- ---- The initial state.
 
@@ -227,7 +227,7 @@ returns-clause-accounts g c =
     let serial = c.requires.opened.valid.serial in
     let same_id : c.in-File.id ≡ next_id c.args.self.now.volume.root = c.in-Ok.ensures.next c.in-File.id c.in-File.is in
     λ o k n. record {
-      keeps_to = (moving_keeps (state c.create.new.self.core) (state c.give_window.new.core) c.give_window.result (accepted c.create.new.self.core.filer) c.give_window.ensures.moves (giving o (next_id c.create.new.self.volume.root))
+      keeps_to = (moving_keeps (state c.create.new.self.core) (state c.give_window.new.core) c.give_window.result (accepted c.create.new.self.core.filer) c.give_window.ensures.went.moves (giving o (next_id c.create.new.self.volume.root))
           (c.in-Ok.ensures.keeps_to o (reached_on o (state c.args.self.now.core) (state c.can_map.new.core) (accepted c.args.self.now.core.filer) c.can_map.ensures.asked.reaches k) n));
       reasons = (let old = c.args.self.now.core in
           let count = c.create.new.self.core.intervals in
@@ -236,7 +236,7 @@ returns-clause-accounts g c =
           reasons_since c.give_window.result o disk (c.create.ensures.stays.layout ∙ c.can_map.ensures.asked.reaches.layout)
           (given_reasons c.give_window.result o next (state c.create.new.self.core).layout disk
           (moving_reasons (ChangeHalts count) (change_reasons count)
-          (state c.create.new.self.core) (state c.give_window.new.core) c.give_window.result (accepted c.create.new.self.core.filer) c.give_window.ensures.moves c.give_window.ensures.cause (giving o next)
+          (state c.create.new.self.core) (state c.give_window.new.core) c.give_window.result (accepted c.create.new.self.core.filer) c.give_window.ensures.went.moves c.give_window.ensures.fails.cause (giving o next)
           (c.in-Ok.ensures.keeps_to o (reached_on o (state old) (state c.can_map.new.core) (accepted old.filer) c.can_map.ensures.asked.reaches k) n))));
       sees = (λ seen.
           let old = c.args.self.now.core in
@@ -252,11 +252,11 @@ returns-clause-accounts g c =
           let on = files_later o c.create.ensures.wrote.makes seen.0 (files_later o (reached_makes c.can_map.ensures.asked.reaches) seen.0 seen.1.1) in
           let given = c.give_window.ensures.sees seen.0 s made (free_may seen.0 c.args.space (are_seen sees) s can.1.1 can.0) (handle_so seen.0 c.args.space (are_seen sees) s can.1.1)
           (record { above_reserved = omega (arith, serial, same_id); small = small; pages_fit = omega (arith, few, long) }) in
-          on_or_blameless o x c.give_window.new.core c.give_window.ensures.makes c.give_window.result
+          on_or_blameless o x c.give_window.new.core c.give_window.ensures.went.makes c.give_window.result
           (given_for_files c.give_window.new.core c.args.space c.in-File.id 0 c.give_window.result seen.0 given files on
           (λ last at. c.in-Ok.ensures.home o keeps c.in-File.id c.in-File.is last (last_within seen.0 (are_seen sees) c.args.space s can.1.1 c.in-Ok-Ok.run'.1 long last at)))
-          (c.give_window.ensures.right (seen.0, made)) no_page
-          (fails_missing_page (ChangeHalts x.intervals) no_page (change_misses x.intervals no_page) (state x) (state c.give_window.new.core) c.give_window.result c.give_window.ensures.cause) (λ id page none. absurd none));
+          (c.give_window.ensures.fails.right (seen.0, made)) no_page
+          (fails_missing_page (ChangeHalts x.intervals) no_page (change_misses x.intervals no_page) (state x) (state c.give_window.new.core) c.give_window.result c.give_window.ensures.fails.cause) (λ id page none. absurd none));
     }
 
 pub returns-in-Err-clause-accounts : goal.returns-in-Err-clause-accounts
@@ -294,7 +294,7 @@ pub returns-in_default-clause-spares : goal.returns-in_default-clause-spares
 returns-in_default-clause-spares g c = but_then (all_but (spares_quiet (reached_makes c.can_map.ensures.asked.reaches))) c.create.ensures.spares
 
 pub returns-clause-spares : goal.returns-clause-spares
-returns-clause-spares g c = but_then (all_but (spares_quiet (reached_makes c.can_map.ensures.asked.reaches))) (but_then c.create.ensures.spares (all_but (spares_quiet c.give_window.ensures.makes)))
+returns-clause-spares g c = but_then (all_but (spares_quiet (reached_makes c.can_map.ensures.asked.reaches))) (but_then c.create.ensures.spares (all_but (spares_quiet c.give_window.ensures.went.makes)))
 
 -- ---- Which windows are seen.
 
@@ -363,6 +363,6 @@ returns-clause-own g c =
     let what = call.MapAnonymous c.args.space in
     let looks = reached_makes c.can_map.ensures.asked.reaches in
     let pages = c.in-Ok-Ok.run'.1 in (
-      only_then (mapped_after (next_id root) (counted root) pages 0 c.args.space looks c.in-Ok.ensures.own.0) (only_asked (next_id root) (counted root) what c.give_window.ensures.makes),
-      where_ok c.give_window.result (only_then (mapped_after (next_id root) now pages 0 c.args.space looks c.in-Ok.ensures.own.1) (only_asked (next_id root) now what c.give_window.ensures.makes)),
+      only_then (mapped_after (next_id root) (counted root) pages 0 c.args.space looks c.in-Ok.ensures.own.0) (only_asked (next_id root) (counted root) what c.give_window.ensures.went.makes),
+      where_ok c.give_window.result (only_then (mapped_after (next_id root) now pages 0 c.args.space looks c.in-Ok.ensures.own.1) (only_asked (next_id root) now what c.give_window.ensures.went.makes)),
     )

@@ -1,9 +1,10 @@
 use Rattle.std.proofs.Common.{ap, arith, inl, inr, Option, refl, rules, subst, sym, ◌∙◌}
+use Rattle.std.specs.Prelude.{option_map}
 use Rattle.labelled_disk.specs.Label.{leader_page}
 use Rattle.flat_machine.specs.declared.call.Call.TheVariants as call
 use Rattle.flat_machine.specs.declared.call.Refusal.TheVariants as why
 use Rattle.swapper_kernel.specs.GoesLaws.{makes_nothing}
-use Rattle.session_words.specs.Parts.{shapes_of}
+use Rattle.session_words.specs.Parts.{shape_of, shapes_of}
 use Rattle.session_words.specs.Volume.{volume_page}
 use Rattle.file_manager.specs.declared.attributes.Attributes.{Attributes}
 use Rattle.file_manager.specs.Attributes.{IsAttributesOf}
@@ -31,6 +32,8 @@ use Rattle.pilot_engine.proofs.SparedFiles.{spares_resized, spares_resizing}
 use Rattle.pilot_engine.proofs.SeesLemmas.{same_from, same_still}
 use Rattle.swapper_kernel.specs.HaltLaws.{brings_then}
 use Rattle.pilot_engine.proofs.CameOwn.{own_itself}
+use Rattle.file_manager.proofs.SyncSteps.{quiet_after}
+use Rattle.pilot_engine.proofs.OwnLemmas.{later_after_sync}
 use Rattle.pilot_engine.proofs.session.Session.resize.Goals as goal
 
 pub returns-then-not-may_be_file-clause-carried : goal.returns-then-not-may_be_file-clause-carried
@@ -366,3 +369,39 @@ returns-in-Ok-clause-came g c = λ spaces_of m s by.
     size_sound spaces_of _ _ _ _ _ m s _ _ _ _ c.attributes_of.ensures.stays.makes c.attributes_of.ensures.stays.brings mid c.attributes_of.ensures.stays.layout c.args.id c.args.pages c.args.seen by c.in-Ok-Some.found revealed c.if-found.false (accepted c.args.self.now.core.filer) c.requires.opened.same_layout (λ fewer. sym (c.held.ensures.cut fewer) ∙ c.in-None.is) c.has_room.result c.has_room.ensures c.if-not-has_room.false _
     (λ x shapes spaces f may few. brings_then c.attributes_of.ensures.stays.brings ((c.in-Ok.ensures.resized x shapes spaces f may.books may.found).grown may few).0.leads.brings)
     (λ x shapes spaces f may. brings_then c.attributes_of.ensures.stays.brings ((c.in-Ok.ensures.resized x shapes spaces f may.books may.found).shrunk may).0.leads.brings)
+
+-- ---- The syncs before its labels.
+
+pub returns-then-not-may_be_file-clause-after_sync : goal.returns-then-not-may_be_file-clause-after_sync
+returns-then-not-may_be_file-clause-after_sync g c = λ spaces_of m f s found permanent. quiet_after (makes_nothing volume_page (state c.args.self.now.core).disk (state c.args.self.now.core).slots)
+
+pub returns-in-Ok-None-clause-after_sync : goal.returns-in-Ok-None-clause-after_sync
+returns-in-Ok-None-clause-after_sync g c = λ spaces_of m f s found permanent. quiet_after c.attributes_of.ensures.stays.makes
+
+pub returns-in-Err-clause-after_sync : goal.returns-in-Err-clause-after_sync
+returns-in-Err-clause-after_sync g c = λ spaces_of m f s found permanent. quiet_after c.attributes_of.ensures.stays.makes
+
+pub returns-then-found-clause-after_sync : goal.returns-then-found-clause-after_sync
+returns-then-found-clause-after_sync g c = λ spaces_of m f s found permanent. quiet_after c.attributes_of.ensures.stays.makes
+
+pub returns-in-Some-clause-after_sync : goal.returns-in-Some-clause-after_sync
+returns-in-Some-clause-after_sync g c = λ spaces_of m f s found permanent. quiet_after c.attributes_of.ensures.stays.makes
+
+pub returns-then-not-has_room-clause-after_sync : goal.returns-then-not-has_room-clause-after_sync
+returns-then-not-has_room-clause-after_sync g c = λ spaces_of m f s found permanent. quiet_after c.attributes_of.ensures.stays.makes
+
+pub returns-in-Ok-clause-after_sync : goal.returns-in-Ok-clause-after_sync
+returns-in-Ok-clause-after_sync g c = λ spaces_of m f s found permanent.
+    let books = session_books spaces_of _ _ _ _ _ m s in
+    let mid = (c.attributes_of.ensures.revealed 96 s.stands.memory (shapes_of m.files) m.spaces books).1 in
+    let at = books_at _ _ _ _ _ _ _ _ mid c.attributes_of.ensures.stays.layout in
+    let made = resized_wrote c.args.id c.args.pages (makes_nothing volume_page (view_of c.attributes_of.new.filer).disk (view_of c.attributes_of.new.filer).slots) c.in-Ok.ensures.writes in
+    later_after_sync c.attributes_of.ensures.stays.makes made.makes ((c.set_size.ensures.resized s.stands.memory (shapes_of m.files) m.spaces (shape_of f) at (ap (option_map shape_of) found)).after_sync permanent)
+
+pub returns-in-Err-set_size-clause-after_sync : goal.returns-in-Err-set_size-clause-after_sync
+returns-in-Err-set_size-clause-after_sync g c = λ spaces_of m f s found permanent.
+    let books = session_books spaces_of _ _ _ _ _ m s in
+    let mid = (c.attributes_of.ensures.revealed 96 s.stands.memory (shapes_of m.files) m.spaces books).1 in
+    let at = books_at _ _ _ _ _ _ _ _ mid c.attributes_of.ensures.stays.layout in
+    let made = some_resized_wrote c.args.id c.args.pages (makes_nothing volume_page (view_of c.attributes_of.new.filer).disk (view_of c.attributes_of.new.filer).slots) c.in-Err-set_size.ensures.writes in
+    later_after_sync c.attributes_of.ensures.stays.makes made.makes ((c.set_size.ensures.resized s.stands.memory (shapes_of m.files) m.spaces (shape_of f) at (ap (option_map shape_of) found)).after_sync permanent)

@@ -19,6 +19,8 @@ use Rattle.pilot_engine.proofs.SeesLemmas.{then_next}
 use Rattle.pilot_engine.proofs.SparedCalls.{all_but, but_then, spares_quiet}
 use Rattle.pilot_engine.proofs.WindowLemmas.{still_then}
 use Rattle.pilot_engine.proofs.CameOwn.{brought_then}
+use Rattle.file_manager.proofs.SyncSteps.{quiet_after}
+use Rattle.pilot_engine.proofs.OwnLemmas.{later_after_sync}
 use Rattle.pilot_engine.proofs.session.Session.set_size.Goals as goal
 use Rattle.filer_kernel.specs.View.{disk_of}
 
@@ -141,3 +143,16 @@ returns-in-Ok-By-clause-windows g c = λ o k. still_then c.resize.result c.args.
 
 pub returns-in-Ok-Hidden-clause-windows : goal.returns-in-Ok-Hidden-clause-windows
 returns-in-Ok-Hidden-clause-windows g c = λ o k. c.in-Ok-Hidden.ensures.windows o k
+
+-- ---- The syncs before its labels.
+
+pub returns-in-Ok-Hidden-clause-after_sync : goal.returns-in-Ok-Hidden-clause-after_sync
+returns-in-Ok-Hidden-clause-after_sync g c = λ m f r found permanent. quiet_after c.sight.ensures.makes
+
+pub returns-in-Err-clause-after_sync : goal.returns-in-Err-clause-after_sync
+returns-in-Err-clause-after_sync g c = λ m f r found permanent. quiet_after c.sight.ensures.makes
+
+pub returns-in-Ok-By-clause-after_sync : goal.returns-in-Ok-By-clause-after_sync
+returns-in-Ok-By-clause-after_sync g c = λ m f r found permanent.
+    let now = c.sight.ensures.runs m r in
+    later_after_sync c.sight.ensures.makes c.resize.ensures.wrote.makes (c.resize.ensures.after_sync _ m f now.session found permanent)

@@ -34,7 +34,7 @@ pub returns-in-Err-clause-runs : goal.returns-in-Err-clause-runs
 returns-in-Err-clause-runs g c = λ m r. c.window_on.ensures.looks.runs c.args.self.now.volume m r
 
 pub returns-in-Err-clause-sound : goal.returns-in-Err-clause-sound
-returns-in-Err-clause-sound g c = λ m r. c.in-Err.ensures.sound c.args.self.now.volume m r
+returns-in-Err-clause-sound g c = λ m r. c.in-Err.ensures.answer c.args.self.now.volume m r
 
 -- ---- The initial state.
 
@@ -68,10 +68,10 @@ returns-in-Err-clause-accounts g c = λ o k. record {
   reasons = (let old = c.args.self.now.core in
       let count = old.intervals in
       shows_after (SightHalts count) (sight_reasons count)
-      o (state old) (state c.window_on.new.core) (accepted old.filer) c.window_on.ensures.looks.reaches.goes.makes k c.in-Err.halt c.in-Err.ensures.cause);
+      o (state old) (state c.window_on.new.core) (accepted old.filer) c.window_on.ensures.looks.reaches.goes.makes k c.in-Err.halt c.in-Err.ensures.fails.cause);
   sees = (λ seen. let old = c.args.self.now.core in
       let new = c.window_on.new.core in
-      (never_blames_form c.in-Err.halt (c.in-Err.ensures.right (seen.0, seen.1.0)), sight_misses (file_pages o (state new).disk) old.intervals (state old) (state new) c.in-Err.halt c.in-Err.ensures.cause));
+      (never_blames_form c.in-Err.halt (c.in-Err.ensures.fails.right (seen.0, seen.1.0)), sight_misses (file_pages o (state new).disk) old.intervals (state old) (state new) c.in-Err.halt c.in-Err.ensures.fails.cause));
 }
 
 -- ---- What is seen of the space tables, and which page is reported as missing.

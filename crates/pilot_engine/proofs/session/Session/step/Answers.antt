@@ -92,3 +92,11 @@ returns-else-is_err-clause-windows g c = λ o k n. c.answer-answer.ensures.windo
 
 pub returns-else-is_err-clause-shown : goal.returns-else-is_err-clause-shown
 returns-else-is_err-clause-shown g c = λ ss s. c.answer-answer.ensures.shown ss s
+
+-- ---- The syncs before labels of pages.
+
+pub returns-then-is_err-clause-resizes : goal.returns-then-is_err-clause-resizes
+returns-then-is_err-clause-resizes g c = λ m r id f is found permanent. c.answer-answer.ensures.resizes m r id f is found permanent
+
+pub returns-else-is_err-clause-resizes : goal.returns-else-is_err-clause-resizes
+returns-else-is_err-clause-resizes g c = λ m r id f is found permanent. c.answer-answer.ensures.resizes m r id f is found permanent

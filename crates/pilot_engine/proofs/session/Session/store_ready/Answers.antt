@@ -12,6 +12,7 @@ use Rattle.fault_core.specs.Moves.{client_page}
 use Rattle.fault_core.proofs.StoreReadyLemmas.{row_sees, row_touches}
 use Rattle.running_words.specs.MovingLaws.{moves_of_touches}
 use Rattle.running_words.specs.Running.{IsRunning}
+use Rattle.running_words.proofs.RunningLemmas.{running_laws}
 use Rattle.space_calls.specs.FilesLaws.{shown_here}
 use Rattle.space_calls.specs.Sees.{StillOn}
 use Rattle.space_calls.proofs.CameLemmas.{store_makes, whole_of, wrote_so}
@@ -88,3 +89,8 @@ returns-clause-stays g c =
 
 pub returns-clause-left : goal.returns-clause-left
 returns-clause-left g c = λ none. rw (c.store_ready.ensures.left none) refl
+
+pub returns-clause-first : goal.returns-clause-first
+returns-clause-first g c = λ m slot r hand.
+    let core = c.args.self.now.core in
+    c.store_ready.ensures.first slot hand (running_laws.apart (state core) (kept core) core.intervals c.args.self.now.volume m r)

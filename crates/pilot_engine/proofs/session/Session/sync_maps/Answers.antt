@@ -11,21 +11,22 @@ use Rattle.pilot_engine.proofs.ShutBySyncLemmas.{reached_swaps}
 use Rattle.pilot_engine.proofs.WroteLemmas.{wrote_swapping}
 use Rattle.pilot_engine.specs.Halting.{WriteHalts}
 use Rattle.labelled_disk.specs.declared.evidence.Halt.{Halt}
+use Rattle.space_calls.specs.OutcomesLaws.{waited_rose}
 use Rattle.pilot_engine.proofs.session.Session.sync_maps.Goals as goal
 
 pub returns-in-Ok-sync-clause-clean : goal.returns-in-Ok-sync-clause-clean
-returns-in-Ok-sync-clause-clean g c = subst AreWritten (sym c.sync.ensures.frames) c.in-Ok.ensures.clean
+returns-in-Ok-sync-clause-clean g c = subst AreWritten (sym c.sync.ensures.waits.frames) c.in-Ok.ensures.clean
 
 pub returns-in-Ok-sync-clause-swaps : goal.returns-in-Ok-sync-clause-swaps
 returns-in-Ok-sync-clause-swaps g c =
-    swaps_then c.write_maps.ensures.swaps (reached_swaps (state c.write_maps.new.self.core) (state c.sync.new.core) c.sync.ensures.frames c.sync.ensures.same c.sync.ensures.reaches)
+    swaps_then c.write_maps.ensures.swaps (reached_swaps (state c.write_maps.new.self.core) (state c.sync.new.core) c.sync.ensures.waits.frames c.sync.ensures.waits.same c.sync.ensures.waits.reaches)
 
 pub returns-in-Err-sync-clause-swaps : goal.returns-in-Err-sync-clause-swaps
 returns-in-Err-sync-clause-swaps g c =
-    swaps_then c.write_maps.ensures.swaps (reached_swaps (state c.write_maps.new.self.core) (state c.sync.new.core) c.sync.ensures.frames c.sync.ensures.same c.sync.ensures.reaches)
+    swaps_then c.write_maps.ensures.swaps (reached_swaps (state c.write_maps.new.self.core) (state c.sync.new.core) c.sync.ensures.waits.frames c.sync.ensures.waits.same c.sync.ensures.waits.reaches)
 
 pub returns-in-Err-sync-clause-cause : goal.returns-in-Err-sync-clause-cause
 returns-in-Err-sync-clause-cause g c =
     let u = state c.write_maps.new.self.core in
     let w = state c.sync.new.core in
-    (u, (wrote_swapping c.write_maps.ensures.swaps, c.write_maps.ensures.layout), subst (λ (h : Halt). WriteHalts u w h) (sym c.in-Err-sync.ensures.fault) c.in-Err-sync.ensures.counted)
+    (u, (wrote_swapping c.write_maps.ensures.swaps, c.write_maps.ensures.layout), subst (λ (h : Halt). WriteHalts u w h) (sym c.in-Err-sync.ensures.fails.cause) (waited_rose c.in-Err-sync.ensures.fails))

@@ -1,4 +1,4 @@
-use Rattle.std.proofs.Common.{ℕ, List, sym, ap, ◌∙◌, subst}
+use Rattle.std.proofs.Common.{ℕ, List, sym, ◌∙◌, subst}
 use Rattle.std.specs.Prelude.{Result}
 use Rattle.std.proofs.lemmas.Bool.{true≢false}
 use Rattle.labelled_disk.specs.declared.evidence.Halt.{Halt}
@@ -9,8 +9,7 @@ use Rattle.fault_core.specs.Core.{state}
 use Rattle.flight_core.specs.declared.stepped.Tried.{Tried}
 use Rattle.label_calls.specs.Synced.{SyncsLeaders}
 use Rattle.pilot_engine.specs.Calls.{Accounts}
-use Rattle.pilot_engine.specs.Stepping.{brings_clients}
-use Rattle.pilot_engine.specs.Trying.{Tries, TriesIn}
+use Rattle.pilot_engine.specs.Trying.{Tries, TriesIn, WritesLabels}
 use Rattle.pilot_engine.proofs.TriedLemmas.{no_client, no_reference, replied_accounts, replied_around, replied_in, reply_tried, step_fails}
 use Rattle.pilot_engine.specs.Writing.{CallMay, WritesAllowed, Written}
 use Rattle.pilot_engine.proofs.WritingLemmas.{allowed_tried}
@@ -21,7 +20,7 @@ returns-in-Load g c = record {
   machine = λ m r. rw c.in-Load.is (c.try_load.ensures.machine m r);
   accounts = λ o k up. c.try_load.ensures.accounts o k up;
   tries = rw c.in-Load.is c.try_load.ensures.tries;
-  labels = λ none. absurd (true≢false (sym (ap brings_clients c.in-Load.is) ∙ none));
+  labels = rw c.in-Load.is c.try_load.ensures.labels;
   running = c.try_load.ensures.running;
 }
 
@@ -32,7 +31,8 @@ returns-in-Store g c = record {
   accounts = λ o k up. c.try_store.ensures.accounts o k up;
   tries = rw c.in-Store.is
       (subst (λ (bs : List ℕ). Tries (call.Store c.in-Store.address bs) c.args.self.now c.try_store.result c.try_store.new.self) c.as_slice.ensures.bytes c.try_store.ensures.tries);
-  labels = λ none. absurd (true≢false (sym (ap brings_clients c.in-Store.is) ∙ none));
+  labels = rw c.in-Store.is
+      (subst (λ (bs : List ℕ). WritesLabels (call.Store c.in-Store.address bs) c.args.self.now c.try_store.result c.try_store.new.self) c.as_slice.ensures.bytes c.try_store.ensures.labels);
   running = c.try_store.ensures.running;
 }
 
@@ -41,7 +41,7 @@ returns-in-Activate g c = record {
   machine = λ m r. rw c.in-Activate.is (c.look_up.ensures.machine m r);
   accounts = λ o k up. c.look_up.ensures.accounts o k up;
   tries = rw c.in-Activate.is c.look_up.ensures.tries;
-  labels = λ none. absurd (true≢false (sym (ap brings_clients c.in-Activate.is) ∙ none));
+  labels = rw c.in-Activate.is c.look_up.ensures.labels;
   running = c.look_up.ensures.running;
 }
 
@@ -70,7 +70,7 @@ returns-in_default g c =
         stay = λ one. absurd (true≢false (sym one ∙ no_reference what quiet));
         stays = did.stays;
       });
-      labels = λ none. record {
+      labels = record {
         own = subst (λ (t : Result Tried Halt). WritesAllowed what old new t) (sym c.replied.ensures) (allowed_tried r (Written (CallMay (next_id old.volume.root) new.volume.root what) (state old.core).disk (state new.core).disk) did.own);
         spares = did.spares;
         around = λ leads. subst (λ (t : Result Tried Halt). SyncsLeaders t (state old.core).disk (state new.core).disk) (sym c.replied.ensures) (replied_around (state old.core).disk (state new.core).disk r (did.around leads));

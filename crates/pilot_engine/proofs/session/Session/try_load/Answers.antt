@@ -28,7 +28,7 @@ use Rattle.space_calls.proofs.RunLemmas.{reached_makes}
 use Rattle.flight_core.specs.declared.stepped.Tried.{Tried}
 use Rattle.flight_core.specs.Tried.{IsTried}
 use Rattle.pilot_engine.proofs.TryLemmas.{load_tried, quiet_tried}
-use Rattle.pilot_engine.proofs.TriedLemmas.{fails_reached, load_may_be}
+use Rattle.pilot_engine.proofs.TriedLemmas.{fails_reached, labels_quiet, load_may_be}
 use Rattle.pilot_engine.proofs.BoundLemmas.{asked_inside}
 use Rattle.pilot_engine.proofs.session.Session.try_load.Goals as goal
 use Rattle.filer_kernel.specs.View.{accepted, disk_of, swapper_of}
@@ -75,6 +75,7 @@ returns-in-Ok g c =
         stay = λ one. pages_yield did.brings.stay;
         stays = record { open_still = still_open _ _ _ _ c.requires.opened did.brings.reaches.layout refl; monotone = omega arith; serial = refl; layout = did.brings.reaches.layout };
       });
+      labels = labels_quiet (call.Load c.args.address n) c.args.self.now (record c.args.self.now { core = new }) c.loaded.result refl moves.goes.makes;
       running = refl;
     }
 
@@ -118,5 +119,6 @@ returns-in-Err g c =
         stay = λ one. pages_yield did.brings.stay;
         stays = record { open_still = still_open _ _ _ _ c.requires.opened did.brings.reaches.layout refl; monotone = omega arith; serial = refl; layout = did.brings.reaches.layout };
       };
+      labels = labels_quiet (call.Load c.args.address n) c.args.self.now (record c.args.self.now { core = new }) outcome refl moves.goes.makes;
       running = refl;
     }

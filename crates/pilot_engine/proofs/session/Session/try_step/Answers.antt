@@ -48,11 +48,11 @@ returns-else-is_err-clause-tries g c =
     }
 
 pub returns-then-is_err-clause-labels : goal.returns-then-is_err-clause-labels
-returns-then-is_err-clause-labels g c = λ none.
-    let did = c.try_answer-answer.ensures.labels none in
+returns-then-is_err-clause-labels g c =
+    let did = c.try_answer-answer.ensures.labels in
     record { own = did.own; spares = did.spares; around = did.around; unlabelled = did.unlabelled }
 
 pub returns-else-is_err-clause-labels : goal.returns-else-is_err-clause-labels
-returns-else-is_err-clause-labels g c = λ none.
-    let did = c.try_answer-answer.ensures.labels none in
+returns-else-is_err-clause-labels g c =
+    let did = c.try_answer-answer.ensures.labels in
     record { own = did.own; spares = did.spares; around = did.around; unlabelled = did.unlabelled }

@@ -30,7 +30,7 @@ use Rattle.space_calls.proofs.StoreLemmas.{are_bytes}
 use Rattle.flight_core.specs.declared.stepped.Tried.{Tried}
 use Rattle.flight_core.specs.Tried.{ComesBy, IsTried, MayBeTried, after_tried}
 use Rattle.pilot_engine.proofs.TryLemmas.{quiet_tried, store_tried, store_tried_passes}
-use Rattle.pilot_engine.proofs.TriedLemmas.{fails_reached, store_may_be}
+use Rattle.pilot_engine.proofs.TriedLemmas.{fails_reached, labels_quiet, store_may_be}
 use Rattle.pilot_engine.proofs.BoundLemmas.{asked_inside}
 use Rattle.pilot_engine.proofs.session.Session.try_store.Goals as goal
 use Rattle.filer_kernel.specs.View.{accepted, disk_of, swapper_of}
@@ -78,6 +78,7 @@ returns-in-Ok g c =
         stay = λ one. did.brings.stay;
         stays = record { open_still = still_open _ _ _ _ c.requires.opened did.brings.touches.layout refl; monotone = omega arith; serial = refl; layout = did.brings.touches.layout };
       };
+      labels = labels_quiet (call.Store c.args.address bytes) c.args.self.now (record c.args.self.now { core = new }) outcome refl moves.goes.makes;
       running = refl;
     }
 
@@ -122,5 +123,6 @@ returns-in-Err g c =
         stay = λ one. did.brings.stay;
         stays = record { open_still = still_open _ _ _ _ c.requires.opened did.brings.touches.layout refl; monotone = omega arith; serial = refl; layout = did.brings.touches.layout };
       };
+      labels = labels_quiet (call.Store c.args.address bytes) c.args.self.now (record c.args.self.now { core = new }) outcome refl moves.goes.makes;
       running = refl;
     }

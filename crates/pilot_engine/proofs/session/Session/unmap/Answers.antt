@@ -33,12 +33,13 @@ use Rattle.pilot_engine.proofs.WindowLemmas.{on_then}
 use Rattle.swapper_kernel.specs.HaltLaws.{brings_then}
 use Rattle.pilot_engine.proofs.WritingLemmas.{only_quiet, only_then, only_unmapped}
 use Rattle.pilot_engine.proofs.session.Session.unmap.Goals as goal
+use Rattle.space_calls.specs.OutcomesLaws.{waited_rose}
 use Rattle.filer_kernel.specs.View.{accepted, disk_of, view_of}
 
 pub returns-in-Ok-Err-clause-answers : goal.returns-in-Ok-Err-clause-answers
 returns-in-Ok-Err-clause-answers g c = λ m r. record {
-  carried = (refused_running _ _ m (call.Unmap c.args.space) _ (subst (λ (x : Result Shown Refusal). IsRefused (Runs c.take_window.new.core c.args.self.now.volume m) x) c.in-Ok-Err.field-0-is (c.in-Ok-Err.ensures.refused c.args.self.now.volume m r))
-      (not_taken m c.args.space _ (λ n. Runs c.take_window.new.core c.args.self.now.volume n) (subst (λ (x : Result Shown Refusal). Reveals (first_of (window_row m.spaces c.args.space)) (IsTaken m c.args.space (λ n. Runs c.take_window.new.core c.args.self.now.volume n)) x) c.in-Ok-Err.field-0-is (c.in-Ok-Err.ensures.taken c.args.self.now.volume m r))));
+  carried = (refused_running _ _ m (call.Unmap c.args.space) _ (subst (λ (x : Result Shown Refusal). IsRefused (Runs c.take_window.new.core c.args.self.now.volume m) x) c.in-Ok-Err.field-0-is (c.in-Ok-Err.ensures.takes c.args.self.now.volume m r).refused)
+      (not_taken m c.args.space _ (λ n. Runs c.take_window.new.core c.args.self.now.volume n) (subst (λ (x : Result Shown Refusal). Reveals (first_of (window_row m.spaces c.args.space)) (IsTaken m c.args.space (λ n. Runs c.take_window.new.core c.args.self.now.volume n)) x) c.in-Ok-Err.field-0-is (c.in-Ok-Err.ensures.takes c.args.self.now.volume m r).taken)));
   sound = tt;
   passes = (asked_passes c.args.self.now.core c.args.self.now.volume m (call.Unmap c.args.space) r (g.met.D.Disk.in_form (disk_of c.args.self.now.core.filer)) c.take_window.ensures.makes);
   came = λ quiet. c.take_window.ensures.reshapes.came;
@@ -50,7 +51,7 @@ returns-in-Ok-Err-clause-wrote g c = wrote_by c.take_window.ensures.makes tt
 
 pub returns-in-Ok-Err-clause-stays : goal.returns-in-Ok-Err-clause-stays
 returns-in-Ok-Err-clause-stays g c = record {
-  open_still = (still_open _ _ _ _ c.requires.opened c.take_window.ensures.layout refl);
+  open_still = (still_open _ _ _ _ c.requires.opened c.take_window.ensures.reshapes.layout refl);
   monotone = (search rules);
   serial = (search rules);
   layout = (search rules);
@@ -59,7 +60,7 @@ returns-in-Ok-Err-clause-stays g c = record {
 pub returns-in-Err-clause-answers : goal.returns-in-Err-clause-answers
 returns-in-Err-clause-answers g c = λ m r. record {
   carried = tt;
-  sound = (c.in-Err.ensures.sound c.args.self.now.volume m r);
+  sound = (c.in-Err.ensures.takes c.args.self.now.volume m r).sound;
   passes = (asked_passes c.args.self.now.core c.args.self.now.volume m (call.Unmap c.args.space) r (g.met.D.Disk.in_form (disk_of c.args.self.now.core.filer)) c.take_window.ensures.makes);
   came = λ quiet. tt;
   cost = (asked_inside (state c.args.self.now.core).disk (state c.take_window.new.core).disk (2 ^ 23) (omega arith) c.take_window.ensures.cost);
@@ -70,7 +71,7 @@ returns-in-Err-clause-wrote g c = wrote_by c.take_window.ensures.makes tt
 
 pub returns-in-Err-clause-stays : goal.returns-in-Err-clause-stays
 returns-in-Err-clause-stays g c = record {
-  open_still = (still_open _ _ _ _ c.requires.opened c.take_window.ensures.layout refl);
+  open_still = (still_open _ _ _ _ c.requires.opened c.take_window.ensures.reshapes.layout refl);
   monotone = (search rules);
   serial = (search rules);
   layout = (search rules);
@@ -78,7 +79,7 @@ returns-in-Err-clause-stays g c = record {
 
 pub returns-then-not-shown-clause-answers : goal.returns-then-not-shown-clause-answers
 returns-then-not-shown-clause-answers g c = λ m r. record {
-  carried = (let t = took m c.args.space c.in-Ok-Ok.shown (λ n. Runs c.take_window.new.core c.args.self.now.volume n) (subst (λ (x : Result Shown Refusal). Reveals (first_of (window_row m.spaces c.args.space)) (IsTaken m c.args.space (λ n. Runs c.take_window.new.core c.args.self.now.volume n)) x) c.in-Ok-Ok.field-0-is (c.in-Ok-Ok.ensures.taken c.args.self.now.volume m r)) in
+  carried = (let t = took m c.args.space c.in-Ok-Ok.shown (λ n. Runs c.take_window.new.core c.args.self.now.volume n) (subst (λ (x : Result Shown Refusal). Reveals (first_of (window_row m.spaces c.args.space)) (IsTaken m c.args.space (λ n. Runs c.take_window.new.core c.args.self.now.volume n)) x) c.in-Ok-Ok.field-0-is (c.in-Ok-Ok.ensures.takes c.args.self.now.volume m r).taken) in
       plain_carried m r.session.stands.is.by.machine c.args.space t.s t.here c.in-Ok-Ok.shown t.window t.free c.take_window.new.core c.args.self.now.volume (unset _ c.if-not-shown.true) t.left);
   sound = tt;
   passes = (asked_passes c.args.self.now.core c.args.self.now.volume m (call.Unmap c.args.space) r (g.met.D.Disk.in_form (disk_of c.args.self.now.core.filer)) c.take_window.ensures.makes);
@@ -91,21 +92,21 @@ returns-then-not-shown-clause-wrote g c = wrote_by c.take_window.ensures.makes t
 
 pub returns-then-not-shown-clause-stays : goal.returns-then-not-shown-clause-stays
 returns-then-not-shown-clause-stays g c = record {
-  open_still = (still_open _ _ _ _ c.requires.opened c.take_window.ensures.layout refl);
+  open_still = (still_open _ _ _ _ c.requires.opened c.take_window.ensures.reshapes.layout refl);
   monotone = (search rules);
   serial = (search rules);
   layout = (search rules);
 }
 
 pub delete_unseen-requires-clause-size : goal.delete_unseen-requires-clause-size
-delete_unseen-requires-clause-size g c = c.take_window.ensures.makes.went.sectors ∙ c.requires.size ∙ ap (λ (l : Layout). l.sectors) (sym c.take_window.ensures.layout)
+delete_unseen-requires-clause-size g c = c.take_window.ensures.makes.went.sectors ∙ c.requires.size ∙ ap (λ (l : Layout). l.sectors) (sym c.take_window.ensures.reshapes.layout)
 
 pub delete_unseen-requires-clause-opened : goal.delete_unseen-requires-clause-opened
-delete_unseen-requires-clause-opened g c = still_open _ _ _ _ c.requires.opened c.take_window.ensures.layout refl
+delete_unseen-requires-clause-opened g c = still_open _ _ _ _ c.requires.opened c.take_window.ensures.reshapes.layout refl
 
 pub returns-in-Err-delete_unseen-clause-answers : goal.returns-in-Err-delete_unseen-clause-answers
 returns-in-Err-delete_unseen-clause-answers g c = λ m r.
-    let t = took m c.args.space c.in-Ok-Ok.shown (λ n. Runs c.take_window.new.core c.args.self.now.volume n) (subst (λ (x : Result Shown Refusal). Reveals (first_of (window_row m.spaces c.args.space)) (IsTaken m c.args.space (λ n. Runs c.take_window.new.core c.args.self.now.volume n)) x) c.in-Ok-Ok.field-0-is (c.in-Ok-Ok.ensures.taken c.args.self.now.volume m r)) in
+    let t = took m c.args.space c.in-Ok-Ok.shown (λ n. Runs c.take_window.new.core c.args.self.now.volume n) (subst (λ (x : Result Shown Refusal). Reveals (first_of (window_row m.spaces c.args.space)) (IsTaken m c.args.space (λ n. Runs c.take_window.new.core c.args.self.now.volume n)) x) c.in-Ok-Ok.field-0-is (c.in-Ok-Ok.ensures.takes c.args.self.now.volume m r).taken) in
     record {
       carried = tt;
       sound = (c.in-Err-delete_unseen.ensures.sound _ _ t.left.session (left_unseen m r.session.stands.is.by.machine c.args.space t.s t.here c.in-Ok-Ok.shown t.window t.free (is_set _ c.if-not-shown.false)) (λ set. left_temporary m r.session.stands.is.by.machine c.args.space t.s t.here c.in-Ok-Ok.shown t.window t.free (is_set _ c.if-not-shown.false)));
@@ -126,67 +127,67 @@ returns-in-Err-delete_unseen-clause-stays g c = record {
   open_still = (search rules);
   monotone = (search rules);
   serial = (search rules);
-  layout = (c.delete_unseen.ensures.stays.layout ∙ c.take_window.ensures.layout);
+  layout = (c.delete_unseen.ensures.stays.layout ∙ c.take_window.ensures.reshapes.layout);
 }
 
 pub returns-in-Ok-sync-clause-answers : goal.returns-in-Ok-sync-clause-answers
 returns-in-Ok-sync-clause-answers g c = λ m r.
-    let t = took m c.args.space c.in-Ok-Ok.shown (λ n. Runs c.take_window.new.core c.args.self.now.volume n) (subst (λ (x : Result Shown Refusal). Reveals (first_of (window_row m.spaces c.args.space)) (IsTaken m c.args.space (λ n. Runs c.take_window.new.core c.args.self.now.volume n)) x) c.in-Ok-Ok.field-0-is (c.in-Ok-Ok.ensures.taken c.args.self.now.volume m r)) in
+    let t = took m c.args.space c.in-Ok-Ok.shown (λ n. Runs c.take_window.new.core c.args.self.now.volume n) (subst (λ (x : Result Shown Refusal). Reveals (first_of (window_row m.spaces c.args.space)) (IsTaken m c.args.space (λ n. Runs c.take_window.new.core c.args.self.now.volume n)) x) c.in-Ok-Ok.field-0-is (c.in-Ok-Ok.ensures.takes c.args.self.now.volume m r).taken) in
     let carried = hidden_carried m r.session.stands.is.by.machine c.args.space t.s t.here c.in-Ok-Ok.shown t.window t.free (is_set _ c.if-not-shown.false) c.delete_unseen.new.self.core c.delete_unseen.new.self.volume (Ok c.in-Ok.done) (carried_out c.take_window.new.core c.delete_unseen.new.self.core c.args.self.now.volume c.delete_unseen.new.self.volume _ (call.Delete c.in-Ok-Ok.shown.id) c.delete_unseen.ensures.kept c.delete_unseen.ensures.intervals refl t.left (Ok c.in-Ok.done) (λ spaces_of s. c.in-Ok.ensures.carried spaces_of _ s (left_unseen m r.session.stands.is.by.machine c.args.space t.s t.here c.in-Ok-Ok.shown t.window t.free (is_set _ c.if-not-shown.false)) (λ set. left_temporary m r.session.stands.is.by.machine c.args.space t.s t.here c.in-Ok-Ok.shown t.window t.free (is_set _ c.if-not-shown.false)))) in
     record {
-      carried = (waited_carried c.delete_unseen.new.self.core c.sync.new.core (accepted c.delete_unseen.new.self.core.filer) (c.delete_unseen.ensures.wrote.makes.went.sectors ∙ c.take_window.ensures.makes.went.sectors ∙ c.requires.size ∙ ap (λ (l : Layout). l.sectors) (sym (c.delete_unseen.ensures.stays.layout ∙ c.take_window.ensures.layout))) c.delete_unseen.new.self.volume m (call.Unmap c.args.space) c.in-Ok.done carried c.sync.ensures.reaches c.sync.ensures.frames c.sync.ensures.intervals c.sync.ensures.known);
+      carried = (waited_carried c.delete_unseen.new.self.core c.sync.new.core (accepted c.delete_unseen.new.self.core.filer) (c.delete_unseen.ensures.wrote.makes.went.sectors ∙ c.take_window.ensures.makes.went.sectors ∙ c.requires.size ∙ ap (λ (l : Layout). l.sectors) (sym (c.delete_unseen.ensures.stays.layout ∙ c.take_window.ensures.reshapes.layout))) c.delete_unseen.new.self.volume m (call.Unmap c.args.space) c.in-Ok.done carried c.sync.ensures.waits.reaches c.sync.ensures.waits.frames c.sync.ensures.waits.intervals c.sync.ensures.waits.known);
       sound = tt;
       passes = (passes_still m (call.Unmap c.args.space)
           (quiet_then m _ (call.Unmap c.args.space) (call.Delete c.in-Ok-Ok.shown.id) (asked_passes c.args.self.now.core c.args.self.now.volume m call.Volume r (g.met.D.Disk.in_form (disk_of c.args.self.now.core.filer)) c.take_window.ensures.makes)
           (c.delete_unseen.ensures.passes _ _ t.left.session (left_unseen m r.session.stands.is.by.machine c.args.space t.s t.here c.in-Ok-Ok.shown t.window t.free (is_set _ c.if-not-shown.false)) (λ set. left_temporary m r.session.stands.is.by.machine c.args.space t.s t.here c.in-Ok-Ok.shown t.window t.free (is_set _ c.if-not-shown.false))) (omega arith) (hidden_alike m r.session.stands.is.by.machine c.args.space t.s t.here c.in-Ok-Ok.shown t.window t.free (is_set _ c.if-not-shown.false)) (hidden_numbers m r.session.stands.is.by.machine c.args.space t.s t.here c.in-Ok-Ok.shown t.window t.free (is_set _ c.if-not-shown.false)))
-          c.sync.ensures.same);
-      came = λ quiet. rw c.sync.ensures.frames (brings_then c.take_window.ensures.reshapes.came (c.in-Ok.ensures.came _ _ t.left.session (left_unseen m r.session.stands.is.by.machine c.args.space t.s t.here c.in-Ok-Ok.shown t.window t.free (is_set _ c.if-not-shown.false)) (λ set. left_temporary m r.session.stands.is.by.machine c.args.space t.s t.here c.in-Ok-Ok.shown t.window t.free (is_set _ c.if-not-shown.false))));
+          c.sync.ensures.waits.same);
+      came = λ quiet. rw c.sync.ensures.waits.frames (brings_then c.take_window.ensures.reshapes.came (c.in-Ok.ensures.came _ _ t.left.session (left_unseen m r.session.stands.is.by.machine c.args.space t.s t.here c.in-Ok-Ok.shown t.window t.free (is_set _ c.if-not-shown.false)) (λ set. left_temporary m r.session.stands.is.by.machine c.args.space t.s t.here c.in-Ok-Ok.shown t.window t.free (is_set _ c.if-not-shown.false))));
       cost = (spent_around (state c.args.self.now.core).disk (state c.take_window.new.core).disk (state c.delete_unseen.new.self.core).disk (state c.sync.new.core).disk c.take_window.ensures.makes.went.sectors (let few = c.take_window.ensures.cost in omega (arith, few))
           (c.delete_unseen.ensures.bounded _ _ t.left.session) (let few = c.sync.ensures.cost in omega (arith, few)));
     }
 
 pub returns-in-Ok-sync-clause-wrote : goal.returns-in-Ok-sync-clause-wrote
-returns-in-Ok-sync-clause-wrote g c = wrote_then (wrote_then (wrote_by c.take_window.ensures.makes tt) c.delete_unseen.ensures.wrote) (wrote_by (reached_makes c.sync.ensures.reaches) tt)
+returns-in-Ok-sync-clause-wrote g c = wrote_then (wrote_then (wrote_by c.take_window.ensures.makes tt) c.delete_unseen.ensures.wrote) (wrote_by (reached_makes c.sync.ensures.waits.reaches) tt)
 
 pub returns-in-Ok-sync-clause-stays : goal.returns-in-Ok-sync-clause-stays
 returns-in-Ok-sync-clause-stays g c = record {
-  open_still = (still_open _ _ _ _ c.delete_unseen.ensures.stays.open_still c.sync.ensures.layout refl);
+  open_still = (still_open _ _ _ _ c.delete_unseen.ensures.stays.open_still c.sync.ensures.waits.layout refl);
   monotone = (search rules);
   serial = (search rules);
-  layout = (c.sync.ensures.layout ∙ c.delete_unseen.ensures.stays.layout ∙ c.take_window.ensures.layout);
+  layout = (c.sync.ensures.waits.layout ∙ c.delete_unseen.ensures.stays.layout ∙ c.take_window.ensures.reshapes.layout);
 }
 
 pub returns-in-Err-sync-clause-answers : goal.returns-in-Err-sync-clause-answers
 returns-in-Err-sync-clause-answers g c = λ m r.
-    let t = took m c.args.space c.in-Ok-Ok.shown (λ n. Runs c.take_window.new.core c.args.self.now.volume n) (subst (λ (x : Result Shown Refusal). Reveals (first_of (window_row m.spaces c.args.space)) (IsTaken m c.args.space (λ n. Runs c.take_window.new.core c.args.self.now.volume n)) x) c.in-Ok-Ok.field-0-is (c.in-Ok-Ok.ensures.taken c.args.self.now.volume m r)) in
+    let t = took m c.args.space c.in-Ok-Ok.shown (λ n. Runs c.take_window.new.core c.args.self.now.volume n) (subst (λ (x : Result Shown Refusal). Reveals (first_of (window_row m.spaces c.args.space)) (IsTaken m c.args.space (λ n. Runs c.take_window.new.core c.args.self.now.volume n)) x) c.in-Ok-Ok.field-0-is (c.in-Ok-Ok.ensures.takes c.args.self.now.volume m r).taken) in
     record {
       carried = tt;
-      sound = c.in-Err-sync.ensures.fault;
+      sound = c.in-Err-sync.ensures.fails.cause;
       passes = (passes_still m (call.Unmap c.args.space)
           (quiet_then m _ (call.Unmap c.args.space) (call.Delete c.in-Ok-Ok.shown.id) (asked_passes c.args.self.now.core c.args.self.now.volume m call.Volume r (g.met.D.Disk.in_form (disk_of c.args.self.now.core.filer)) c.take_window.ensures.makes)
           (c.delete_unseen.ensures.passes _ _ t.left.session (left_unseen m r.session.stands.is.by.machine c.args.space t.s t.here c.in-Ok-Ok.shown t.window t.free (is_set _ c.if-not-shown.false)) (λ set. left_temporary m r.session.stands.is.by.machine c.args.space t.s t.here c.in-Ok-Ok.shown t.window t.free (is_set _ c.if-not-shown.false))) (omega arith) (hidden_alike m r.session.stands.is.by.machine c.args.space t.s t.here c.in-Ok-Ok.shown t.window t.free (is_set _ c.if-not-shown.false)) (hidden_numbers m r.session.stands.is.by.machine c.args.space t.s t.here c.in-Ok-Ok.shown t.window t.free (is_set _ c.if-not-shown.false)))
-          c.sync.ensures.same);
+          c.sync.ensures.waits.same);
       came = λ quiet. tt;
       cost = (spent_around (state c.args.self.now.core).disk (state c.take_window.new.core).disk (state c.delete_unseen.new.self.core).disk (state c.sync.new.core).disk c.take_window.ensures.makes.went.sectors (let few = c.take_window.ensures.cost in omega (arith, few))
           (c.delete_unseen.ensures.bounded _ _ t.left.session) (let few = c.sync.ensures.cost in omega (arith, few)));
     }
 
 pub returns-in-Err-sync-clause-wrote : goal.returns-in-Err-sync-clause-wrote
-returns-in-Err-sync-clause-wrote g c = wrote_then (wrote_then (wrote_by c.take_window.ensures.makes tt) c.delete_unseen.ensures.wrote) (wrote_by (reached_makes c.sync.ensures.reaches) tt)
+returns-in-Err-sync-clause-wrote g c = wrote_then (wrote_then (wrote_by c.take_window.ensures.makes tt) c.delete_unseen.ensures.wrote) (wrote_by (reached_makes c.sync.ensures.waits.reaches) tt)
 
 pub returns-in-Err-sync-clause-stays : goal.returns-in-Err-sync-clause-stays
 returns-in-Err-sync-clause-stays g c = record {
-  open_still = (still_open _ _ _ _ c.delete_unseen.ensures.stays.open_still c.sync.ensures.layout refl);
+  open_still = (still_open _ _ _ _ c.delete_unseen.ensures.stays.open_still c.sync.ensures.waits.layout refl);
   monotone = (search rules);
   serial = (search rules);
-  layout = (c.sync.ensures.layout ∙ c.delete_unseen.ensures.stays.layout ∙ c.take_window.ensures.layout);
+  layout = (c.sync.ensures.waits.layout ∙ c.delete_unseen.ensures.stays.layout ∙ c.take_window.ensures.reshapes.layout);
 }
 
 pub returns-in-Ok-sync-clause-synced : goal.returns-in-Ok-sync-clause-synced
 returns-in-Ok-sync-clause-synced g c = λ is. c.in-Ok-sync.ensures.synced
 
 pub returns-in-Err-sync-clause-counted : goal.returns-in-Err-sync-clause-counted
-returns-in-Err-sync-clause-counted g c = λ is. rose_after _ _ _ c.take_window.ensures.makes.went.faults (rose_after _ _ _ c.delete_unseen.ensures.wrote.makes.went.faults c.in-Err-sync.ensures.counted)
+returns-in-Err-sync-clause-counted g c = λ is. rose_after _ _ _ c.take_window.ensures.makes.went.faults (rose_after _ _ _ c.delete_unseen.ensures.wrote.makes.went.faults (waited_rose c.in-Err-sync.ensures.fails))
 
 pub returns-in-Ok-Err-clause-synced : goal.returns-in-Ok-Err-clause-synced
 returns-in-Ok-Err-clause-synced g c = λ is. absurd (refused_undone _ is)
@@ -197,7 +198,7 @@ returns-then-not-shown-clause-synced g c = λ is. subst (λ (x : Result Shown Re
 -- ---- Why it failed.
 
 pub returns-in-Err-clause-cause : goal.returns-in-Err-clause-cause
-returns-in-Err-clause-cause g c = inl c.in-Err.ensures.cause
+returns-in-Err-clause-cause g c = inl c.in-Err.ensures.fails.cause
 
 pub returns-in-Err-delete_unseen-clause-cause : goal.returns-in-Err-delete_unseen-clause-cause
 returns-in-Err-delete_unseen-clause-cause g c = inr (
@@ -214,7 +215,7 @@ returns-in-Err-sync-clause-cause g c =
     let w = state c.sync.new.core in
     let first = c.take_window.ensures.makes.went.faults in
     let later = c.delete_unseen.ensures.wrote.makes.went.faults in
-    inl (fault_halt (BreaksWindow v c.args.self.now.core.intervals c.args.space) v x w c.in-Err-sync.halt (omega (arith, first, later)) c.in-Err-sync.ensures.fault c.in-Err-sync.ensures.counted)
+    inl (fault_halt (BreaksWindow v c.args.self.now.core.intervals c.args.space) v x w c.in-Err-sync.halt (omega (arith, first, later)) c.in-Err-sync.ensures.fails.cause (waited_rose c.in-Err-sync.ensures.fails))
 
 -- ---- The initial state.
 
@@ -241,13 +242,13 @@ returns-then-not-shown-clause-accounts g c = λ o k. record {
 pub returns-in-Ok-sync-clause-accounts : goal.returns-in-Ok-sync-clause-accounts
 returns-in-Ok-sync-clause-accounts g c = λ o k. record {
   keeps_to = (let old = c.args.self.now.core in
-      reached_on o (state c.delete_unseen.new.self.core) (state c.sync.new.core) (accepted c.delete_unseen.new.self.core.filer) c.sync.ensures.reaches
+      reached_on o (state c.delete_unseen.new.self.core) (state c.sync.new.core) (accepted c.delete_unseen.new.self.core.filer) c.sync.ensures.waits.reaches
       ((c.in-Ok.ensures.accounts o (reshaped_on o (state old) (state c.take_window.new.core) (accepted old.filer) c.take_window.ensures.reshapes k)).keeps_to));
   reasons = tt;
   sees = (λ seen. let old = c.args.self.now.core in
       let u = c.take_window.new.core in
       let taken = home_on o old u c.take_window.ensures.makes (still_on old u c.in-Ok-Ok.ensures.sees (WasBelow o (state old).disk) seen) in
-      home_still o c.delete_unseen.new.self.core c.sync.new.core (reached_makes c.sync.ensures.reaches) c.sync.ensures.still
+      home_still o c.delete_unseen.new.self.core c.sync.new.core (reached_makes c.sync.ensures.waits.reaches) c.sync.ensures.waits.still
       ((c.in-Ok.ensures.accounts o (reshaped_on o (state old) (state u) (accepted old.filer) c.take_window.ensures.reshapes k)).sees taken));
 }
 
@@ -257,18 +258,18 @@ returns-in-Err-clause-accounts g c = λ o k. record {
   reasons = (let old = c.args.self.now.core in
       let count = old.intervals in
       shows_after (TakeWindowHalts c.args.space count) (take_window_reasons c.args.space count)
-      o (state old) (state c.take_window.new.core) (accepted old.filer) c.take_window.ensures.makes k c.in-Err.halt c.in-Err.ensures.cause);
+      o (state old) (state c.take_window.new.core) (accepted old.filer) c.take_window.ensures.makes k c.in-Err.halt c.in-Err.ensures.fails.cause);
   sees = (λ seen. let old = c.args.self.now.core in
       let u = c.take_window.new.core in
-      none_blameless o (view_of u.filer).disk c.in-Err.halt (never_blames_form c.in-Err.halt (c.in-Err.ensures.right (seen.0, seen.1.0)))
-      (λ pages. take_window_misses c.args.space old.intervals pages (state old) (state u) c.in-Err.halt c.in-Err.ensures.cause));
+      none_blameless o (view_of u.filer).disk c.in-Err.halt (never_blames_form c.in-Err.halt (c.in-Err.ensures.fails.right (seen.0, seen.1.0)))
+      (λ pages. take_window_misses c.args.space old.intervals pages (state old) (state u) c.in-Err.halt c.in-Err.ensures.fails.cause));
 }
 
 pub returns-in-Err-delete_unseen-clause-accounts : goal.returns-in-Err-delete_unseen-clause-accounts
 returns-in-Err-delete_unseen-clause-accounts g c = λ o k. record {
   keeps_to = tt;
   reasons = (let old = c.args.self.now.core in
-      shows_since o (state c.delete_unseen.new.self.core).disk c.in-Err-delete_unseen.halt c.take_window.ensures.layout
+      shows_since o (state c.delete_unseen.new.self.core).disk c.in-Err-delete_unseen.halt c.take_window.ensures.reshapes.layout
       ((c.in-Err-delete_unseen.ensures.accounts o (reshaped_on o (state old) (state c.take_window.new.core) (accepted old.filer) c.take_window.ensures.reshapes k)).reasons));
   sees = (λ seen. let old = c.args.self.now.core in
       let u = c.take_window.new.core in
@@ -279,8 +280,8 @@ returns-in-Err-delete_unseen-clause-accounts g c = λ o k. record {
 pub returns-in-Err-sync-clause-accounts : goal.returns-in-Err-sync-clause-accounts
 returns-in-Err-sync-clause-accounts g c = λ o k. record {
   keeps_to = tt;
-  reasons = (fault_shows o (state c.args.self.now.core).layout (state c.sync.new.core).disk c.in-Err-sync.halt c.in-Err-sync.ensures.fault);
-  sees = (λ seen. fault_blameless o (state c.sync.new.core).disk c.in-Err-sync.halt c.in-Err-sync.ensures.fault);
+  reasons = (fault_shows o (state c.args.self.now.core).layout (state c.sync.new.core).disk c.in-Err-sync.halt c.in-Err-sync.ensures.fails.cause);
+  sees = (λ seen. fault_blameless o (state c.sync.new.core).disk c.in-Err-sync.halt c.in-Err-sync.ensures.fails.cause);
 }
 
 -- ---- Which pages are missing.
@@ -288,7 +289,7 @@ returns-in-Err-sync-clause-accounts g c = λ o k. record {
 pub returns-in-Err-clause-missing : goal.returns-in-Err-clause-missing
 returns-in-Err-clause-missing g c = λ ss sees.
     let old = c.args.self.now.core in
-    take_window_misses c.args.space old.intervals (missing_page (call.Unmap c.args.space) ss) (state old) (state c.take_window.new.core) c.in-Err.halt c.in-Err.ensures.cause
+    take_window_misses c.args.space old.intervals (missing_page (call.Unmap c.args.space) ss) (state old) (state c.take_window.new.core) c.in-Err.halt c.in-Err.ensures.fails.cause
 
 pub returns-in-Err-delete_unseen-clause-missing : goal.returns-in-Err-delete_unseen-clause-missing
 returns-in-Err-delete_unseen-clause-missing g c = λ ss sees.
@@ -296,7 +297,7 @@ returns-in-Err-delete_unseen-clause-missing g c = λ ss sees.
     (state c.take_window.new.core) (state c.delete_unseen.new.self.core) c.in-Err-delete_unseen.halt c.in-Err-delete_unseen.ensures.cause
 
 pub returns-in-Err-sync-clause-missing : goal.returns-in-Err-sync-clause-missing
-returns-in-Err-sync-clause-missing g c = λ ss sees. fault_misses (missing_page (call.Unmap c.args.space) ss) c.in-Err-sync.halt c.in-Err-sync.ensures.fault
+returns-in-Err-sync-clause-missing g c = λ ss sees. fault_misses (missing_page (call.Unmap c.args.space) ss) c.in-Err-sync.halt c.in-Err-sync.ensures.fails.cause
 
 -- ---- The space tables are seen.
 
@@ -315,10 +316,10 @@ pub returns-in-Err-delete_unseen-clause-spares : goal.returns-in-Err-delete_unse
 returns-in-Err-delete_unseen-clause-spares g c = all_then (spares_quiet c.take_window.ensures.makes) (c.delete_unseen.ensures.lasting refl)
 
 pub returns-in-Ok-sync-clause-spares : goal.returns-in-Ok-sync-clause-spares
-returns-in-Ok-sync-clause-spares g c = all_then (all_then (spares_quiet c.take_window.ensures.makes) (c.delete_unseen.ensures.lasting refl)) (spares_quiet (reached_makes c.sync.ensures.reaches))
+returns-in-Ok-sync-clause-spares g c = all_then (all_then (spares_quiet c.take_window.ensures.makes) (c.delete_unseen.ensures.lasting refl)) (spares_quiet (reached_makes c.sync.ensures.waits.reaches))
 
 pub returns-in-Err-sync-clause-spares : goal.returns-in-Err-sync-clause-spares
-returns-in-Err-sync-clause-spares g c = all_then (all_then (spares_quiet c.take_window.ensures.makes) (c.delete_unseen.ensures.lasting refl)) (spares_quiet (reached_makes c.sync.ensures.reaches))
+returns-in-Err-sync-clause-spares g c = all_then (all_then (spares_quiet c.take_window.ensures.makes) (c.delete_unseen.ensures.lasting refl)) (spares_quiet (reached_makes c.sync.ensures.waits.reaches))
 
 -- ---- Which windows are seen.
 
@@ -334,7 +335,7 @@ returns-in-Ok-sync-clause-windows g c = λ o k.
     let u = c.take_window.new.core in
     let w = c.delete_unseen.new.self.core in
     let taken = reshaped_on o (state old) (state u) (accepted old.filer) c.take_window.ensures.reshapes k in
-    on_then old u c.sync.new.core c.in-Ok-Ok.ensures.sees (λ ss s. c.sync.ensures.still ss (c.in-Ok.ensures.windows o taken ss s))
+    on_then old u c.sync.new.core c.in-Ok-Ok.ensures.sees (λ ss s. c.sync.ensures.waits.still ss (c.in-Ok.ensures.windows o taken ss s))
 
 -- ---- What is written.
 
@@ -354,9 +355,9 @@ returns-in-Err-delete_unseen-clause-own g c =
 pub returns-in-Ok-sync-clause-own : goal.returns-in-Ok-sync-clause-own
 returns-in-Ok-sync-clause-own g c =
     let what = call.Unmap c.args.space in
-    only_then (only_then (only_quiet what c.take_window.ensures.makes) ((only_unmapped c.in-Ok-Ok.shown.id c.args.space c.delete_unseen.ensures.own))) (only_quiet what (reached_makes c.sync.ensures.reaches))
+    only_then (only_then (only_quiet what c.take_window.ensures.makes) ((only_unmapped c.in-Ok-Ok.shown.id c.args.space c.delete_unseen.ensures.own))) (only_quiet what (reached_makes c.sync.ensures.waits.reaches))
 
 pub returns-in-Err-sync-clause-own : goal.returns-in-Err-sync-clause-own
 returns-in-Err-sync-clause-own g c =
     let what = call.Unmap c.args.space in
-    only_then (only_then (only_quiet what c.take_window.ensures.makes) ((only_unmapped c.in-Ok-Ok.shown.id c.args.space c.delete_unseen.ensures.own))) (only_quiet what (reached_makes c.sync.ensures.reaches))
+    only_then (only_then (only_quiet what c.take_window.ensures.makes) ((only_unmapped c.in-Ok-Ok.shown.id c.args.space c.delete_unseen.ensures.own))) (only_quiet what (reached_makes c.sync.ensures.waits.reaches))
