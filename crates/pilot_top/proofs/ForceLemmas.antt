@@ -1,16 +1,15 @@
 -- What the settled files of the machine have in common since the disk was synced stays where the power goes.
-use Rattle.std.proofs.Common.{◌≡◌, inl, inr, ℕ, zero, suc, ◌+◌, ◌-◌, ◌<◌, ◌≤◌, Bool, true, false, ◌&&◌, List, [], ◌∷◌, map, length, Option, Some, None, refl, sym, ◌∙◌, ap, subst, arith, eqb, length-take}
+use Rattle.std.proofs.Common.{◌≡◌, ℕ, suc, ◌+◌, ◌-◌, ◌<◌, ◌≤◌, Bool, true, false, ◌&&◌, List, [], ◌∷◌, map, length, Option, Some, None, refl, sym, ◌∙◌, ap, subst, arith, eqb, length-take}
 use Rattle.std.specs.Prelude.{find, option_map, slice_get, take}
 use Rattle.std.specs.List.{AllZip}
 use Rattle.std.proofs.lemmas.Bool.{and_parts}
 use Rattle.std.proofs.lemmas.List.{length-drop}
 use Rattle.std.proofs.lemmas.Option.{none-some, same_Some, slice_get_within}
 use Rattle.labelled_disk.specs.declared.disk.DiskWrite.{DiskWrite}
-use Rattle.labelled_disk.specs.declared.label.Label.{Label}
 use Rattle.labelled_disk.specs.Ascending.{BothBy}
 use Rattle.labelled_disk.specs.CrashState.{crash_state}
 use Rattle.labelled_disk.specs.File.{File, Page, byte, file_at, size}
-use Rattle.labelled_disk.specs.FilesOn.{disk_file, file_by, files_on, leader_among, leads, leads_file}
+use Rattle.labelled_disk.specs.FilesOn.{disk_file, file_by, files_on, leads, leads_file}
 use Rattle.labelled_disk.specs.Label.{is_file, is_permanent, leader_page}
 use Rattle.labelled_disk.specs.Layout.{data_sectors}
 use Rattle.labelled_disk.specs.Root.{counter_of, serial_of}
@@ -19,16 +18,17 @@ use Rattle.labelled_disk.specs.State.{DiskState}
 use Rattle.labelled_disk.proofs.LowestLemmas as lowest_files
 use Rattle.labelled_disk.proofs.WriteLemmas as laws
 use Rattle.label_laws.specs.Shape.{BareFile, SameShape, bare_file}
-use Rattle.cut_laws.specs.Cut.{IsCut, IsCutSince}
+use Rattle.cut_laws.specs.Cut.{AtSome, IsCut, IsCutSince, unit}
 use Rattle.cut_laws.specs.CutLaws.{between}
 use Rattle.cut_laws.specs.ShapeLaws.{IsWholeOn}
-use Rattle.cut_laws.specs.Common.{SamePagesStay}
-use Rattle.cut_laws.specs.Windows.{PagesOfCrashStates, disk_page}
-use Rattle.cut_laws.proofs.CommonLemmas.{common_stays}
+use Rattle.cut_laws.specs.OneCrashState.{HasUnitsOfCrashStates, IsResizedAlone}
+use Rattle.cut_laws.proofs.CommonLemmas.{file_of_shape}
 use Rattle.cut_laws.proofs.CrashStateLemmas.{get_some}
 use Rattle.cut_laws.proofs.CutLemmas.{window_laws}
 use Rattle.cut_laws.proofs.PairLemmas.{lowest}
-use Rattle.cut_laws.proofs.StayLemmas.{pages_of_file}
+use Rattle.cut_laws.proofs.ResizedLemmas.{resized_of_one}
+use Rattle.cut_laws.proofs.StayLemmas.{none_appears}
+use Rattle.cut_laws.proofs.UnitLemmas.{same_units}
 use Rattle.cut_laws.proofs.WholeLemmas.{right_is_whole}
 use Rattle.flat_machine.specs.After.{TraceLine}
 use Rattle.flat_machine.specs.Machine.{Machine}
@@ -36,7 +36,7 @@ use Rattle.flat_machine.specs.Settled.{CellAgrees, FileAgrees, PageAgrees, settl
 use Rattle.session_words.specs.StandsFor.{RevealsSettled}
 use Rattle.session_words.proofs.SameLabelLemmas.{zip_at, zip_long, zip_looked}
 use Rattle.pilot_top.specs.CrashStates.{CrashStates, staged}
-use Rattle.pilot_top.specs.Forcing.{AtEach, HasForced, HasSettled, IsOfShape, KeepsForced}
+use Rattle.pilot_top.specs.Forcing.{AtEach, HasForced, HasNoneSettled, HasSettled, HasSettledSize, IsOfType, KeepsForced}
 
 -- a file that counts is permanent
 permanent : (d : List Sector) (id : ℕ) (g : File) → disk_file false d id ≡ Some g → g.permanent ≡ true
@@ -65,10 +65,21 @@ settled_on e m id f reveals is = by (file_at (files_on e) id) refl (subst (λ (o
     by None none both = absurd (subst (λ (o : Option File). BothBy FileAgrees o (Some f)) none both)
     by (Some g) found both = (g, sym (laws.look_up false 0 0 e id) ∙ found, subst (λ (o : Option File). BothBy FileAgrees o (Some f)) found both)
 
-module _ (m : Machine) (lines : List TraceLine) (d : List Sector) {a c : DiskState} (states : CrashStates m lines a c) (revealed : a.contents ≡ Some d) (id kind pages s k : ℕ) (immutable : Bool) (e : List Sector) (ordered : s ≤ k) (few : k ≤ length states.writes)
-    (cut : IsCut d states.writes s k e) (shaped : AtEach m lines states.line states.step s k (HasSettled id kind immutable pages)) where
+-- nor is there one on the disk where the machine has none
+none_on : (e : List Sector) (m : Machine) (id : ℕ) → RevealsSettled e m → file_at (settled m) id ≡ None → disk_file false e id ≡ None
+none_on e m id reveals is = by (file_at (files_on e) id) refl (subst (λ (o : Option File). BothBy FileAgrees (file_at (files_on e) id) o) is (zip_looked FileAgrees (λ g h agree. agree.same_id) (files_on e) (settled m) reveals.agrees id))
+  where
+    by : (o : Option File) → file_at (files_on e) id ≡ o → BothBy FileAgrees (file_at (files_on e) id) None → disk_file false e id ≡ None
+    by None found both = sym (laws.look_up false 0 0 e id) ∙ found
+    by (Some g) found both = absurd (subst (λ (o : Option File). BothBy FileAgrees o None) found both)
+
+module _ (m : Machine) (lines : List TraceLine) (d : List Sector) {a c : DiskState} (states : CrashStates m lines a c) (revealed : a.contents ≡ Some d) (id s k : ℕ) (e : List Sector) (ordered : s ≤ k) (few : k ≤ length states.writes)
+    (cut : IsCut d states.writes s k e) where
   abbrev now : ℕ → List Sector
   now i = crash_state d states.writes i
+
+  abbrev place : ℕ → Machine
+  place i = staged m lines (states.line i) (states.step i)
 
   abbrev first : List Sector
   first = crash_state d states.writes s
@@ -76,35 +87,8 @@ module _ (m : Machine) (lines : List TraceLine) (d : List Sector) {a c : DiskSta
   abbrev since : List DiskWrite
   since = between s k states.writes
 
-  reveals : (i : ℕ) → RevealsSettled (now i) (staged m lines (states.line i) (states.step i))
+  reveals : (i : ℕ) → RevealsSettled (now i) (place i)
   reveals i = (states.each d i revealed).revealed
-
-  -- the file in each crash state
-  there : (i : ℕ) → s ≤ i → i ≤ k → (g : File) × (disk_file false (now i) id ≡ Some g) × IsOfShape kind immutable pages g × (g.id ≡ id) × (g.permanent ≡ true)
-  there i low high =
-      let f = shaped i low high in
-      let g = settled_on (now i) (staged m lines (states.line i) (states.step i)) id f.0 (reveals i) f.1 in
-      (g.0, g.1, (g.2.same_kind ∙ f.2.0, g.2.same_immutable ∙ f.2.1, zip_long PageAgrees g.0.pages f.0.pages g.2.pages_agree ∙ f.2.2), own g.0 g.1, permanent (now i) id g.0 g.1)
-    where
-      own : (g : File) → disk_file false (now i) id ≡ Some g → g.id ≡ id
-      own g is = ((lowest_files.files_are_as_revealed false (now i)).revealed id g is).1
-
-  at_first : s ≤ s
-  at_first = omega arith
-
-  abbrev from_first : (g : File) × (disk_file false (now s) id ≡ Some g) × IsOfShape kind immutable pages g × (g.id ≡ id) × (g.permanent ≡ true)
-  from_first = there s at_first ordered
-
-  same_shape : (i : ℕ) (low : s ≤ i) (high : i ≤ k) → bare_file (there i low high).0 ≡ bare_file from_first.0
-  same_shape i low high =
-      let g = there i low high in
-      let h = from_first in
-      let ids : g.0.id ≡ h.0.id = g.3 ∙ sym h.3 in
-      let kinds : g.0.kind ≡ h.0.kind = g.2.0 ∙ sym h.2.0 in
-      let marks : g.0.permanent ≡ h.0.permanent = g.4 ∙ sym h.4 in
-      let fixed : g.0.immutable ≡ h.0.immutable = g.2.1 ∙ sym h.2.1 in
-      let sizes : size g.0 ≡ size h.0 = g.2.2 ∙ sym h.2.2 in
-      λ n. record { id = ids n; kind = kinds n; permanent = marks n; immutable = fixed n; pages = sizes n }
 
   cut_since : IsCutSince first since e
   cut_since = window_laws.cut d states.writes s k e ordered cut
@@ -118,67 +102,93 @@ module _ (m : Machine) (lines : List TraceLine) (d : List Sector) {a c : DiskSta
   state_at : (j : ℕ) → j ≤ length since → crash_state first since j ≡ now (s + j)
   state_at j below = window_laws.crash_states d states.writes s k j (let many = many_since in omega (arith, below, many, ordered))
 
+  file_at_state : (j : ℕ) → j ≤ length since → disk_file false (crash_state first since j) id ≡ disk_file false (now (s + j)) id
+  file_at_state j below = ap (λ (x : List Sector). disk_file false x id) (state_at j below)
+
   -- a crash state since is one of these
   by_then : (j : ℕ) → j ≤ length since → s + j ≤ k
   by_then j below = let many = many_since in omega (arith, below, many, ordered)
 
-  whole_at : (j : ℕ) → j ≤ length since → IsWholeOn (crash_state first since j) id
-  whole_at j below =
-      let g = there (s + j) (omega arith) (by_then j below) in
-      subst (λ (x : List Sector). IsWholeOn x id) (sym (state_at j below)) (right_is_whole false (serial_of (now (s + j))) (counter_of (now (s + j))) (now (s + j)) id g.0 (reveals (s + j)).right.files g.1)
-
-  shape_at : (j : ℕ) → j ≤ length since → SameShape false first (crash_state first since j) id
-  shape_at j below =
-      let g = there (s + j) (omega arith) (by_then j below) in
-      ap (λ (x : List Sector). option_map bare_file (disk_file false x id)) (state_at j below) ∙ ap (λ (o : Option File). option_map bare_file o) g.1
-      ∙ ap (λ (b : BareFile). Some b) (same_shape (s + j) (omega arith) (by_then j below)) ∙ sym (ap (λ (o : Option File). option_map bare_file o) from_first.1)
-
-  in_common : SameShape false first e id × PagesOfCrashStates first since e id × SamePagesStay first since e id (size from_first.0)
-  in_common = common_stays false first since e id from_first.0 cut_since whole_at from_first.1 shape_at
-
-  in_cut : (h : File) × (disk_file false e id ≡ Some h) × (bare_file h ≡ bare_file from_first.0)
-  in_cut = by (disk_file false e id) refl (in_common.0 ∙ ap (λ (o : Option File). option_map bare_file o) from_first.1)
-    where
-      by : (o : Option File) → disk_file false e id ≡ o → option_map bare_file (disk_file false e id) ≡ Some (bare_file from_first.0) → (h : File) × (disk_file false e id ≡ Some h) × (bare_file h ≡ bare_file from_first.0)
-      by None none same = absurd (none-some (bare_file from_first.0) (sym (ap (λ (o : Option File). option_map bare_file o) none) ∙ same))
-      by (Some h) is same = (h, is, same_Some (bare_file h) (bare_file from_first.0) (sym (ap (λ (o : Option File). option_map bare_file o) is) ∙ same))
+  -- where no place has the file
+  none_in_cut : AtEach m lines states.line states.step s k (HasNoneSettled id) → disk_file false e id ≡ None
+  none_in_cut each =
+      none_appears false first since e id cut_since (λ j below. file_at_state j below ∙ none_on (now (s + j)) (place (s + j)) id (reveals (s + j)) (each (s + j) (omega arith) (by_then j below)))
 
   -- a page that was forced stands on each of these disks
-  forced_at : (page : ℕ) (bytes : List ℕ) (i : ℕ) → HasForced id page bytes (staged m lines (states.line i) (states.step i)) → disk_page (now i) id page ≡ Some (map byte bytes)
-  forced_at page bytes i (f, is, at) =
-      let g = settled_on (now i) (staged m lines (states.line i) (states.step i)) id f (reveals i) is in
+  forced_at : (page : ℕ) (bytes : List ℕ) (i : ℕ) (f : File) → HasForced id page bytes (place i) → disk_file false (now i) id ≡ Some f → slice_get f.pages page ≡ Some (map byte bytes)
+  forced_at page bytes i f forced is =
+      let g = settled_on (now i) (place i) id forced.0 (reveals i) forced.1 in
       let agree = g.2.pages_agree in
-      let below : page < size g.0 = let long = zip_long PageAgrees g.0.pages f.pages agree in let within = slice_get_within f.pages page (map byte bytes) at in omega (arith, long, within) in
+      let below : page < size g.0 = let long = zip_long PageAgrees g.0.pages forced.0.pages agree in let within = slice_get_within forced.0.pages page (map byte bytes) forced.2 in omega (arith, long, within) in
       let q = get_some g.0.pages page below in
-      sym (pages_of_file false (now i) id page g.0 g.1 below) ∙ q.1 ∙ ap (λ (c : Page). Some c) (cells_are q.0 bytes (zip_at PageAgrees g.0.pages f.pages agree page q.0 (map byte bytes) q.1 at))
+      ap (λ (h : File). slice_get h.pages page) (same_Some f g.0 (sym is ∙ g.1)) ∙ q.1
+      ∙ ap (λ (c : Page). Some c) (cells_are q.0 bytes (zip_at PageAgrees g.0.pages forced.0.pages agree page q.0 (map byte bytes) q.1 forced.2))
 
-  -- and is one of the file
-  page_below : (page : ℕ) (bytes : List ℕ) → HasForced id page bytes (staged m lines (states.line s) (states.step s)) → page < size from_first.0
-  page_below page bytes (f, is, at) =
-      let g = shaped s (omega arith) ordered in
-      let same : f ≡ g.0 = same_Some f g.0 (sym is ∙ g.1) in
-      let within = slice_get_within f.pages page (map byte bytes) at in
-      let sizes : size f ≡ pages = ap size same ∙ g.2.2 in
-      let count = from_first.2.2 in
-      omega (arith, within, sizes, count)
+  -- Where each place has it, of one type.
+  module _ (kind : ℕ) (immutable : Bool) (shaped : AtEach m lines states.line states.step s k (HasSettled id kind immutable)) where
+    abbrev bare : BareFile
+    bare = record { id = id; kind = kind; permanent = true; immutable = immutable; pages = 0 }
 
-  kept : (f : File) × (disk_file false e id ≡ Some f) × IsOfShape kind immutable pages f
-      × ((page : ℕ) (bytes : List ℕ) → AtEach m lines states.line states.step s k (HasForced id page bytes) → slice_get f.pages page ≡ Some (map byte bytes))
-  kept =
-      let h = in_cut in (
-        h.0,
-        h.1,
-        (ap (λ (b : BareFile). b.kind) h.2 ∙ from_first.2.0, ap (λ (b : BareFile). b.immutable) h.2 ∙ from_first.2.1, ap (λ (b : BareFile). b.pages) h.2 ∙ from_first.2.2),
-        λ page bytes each.
-            let below = page_below page bytes (each s (omega arith) ordered) in
-            let sizes : size h.0 ≡ size from_first.0 = ap (λ (b : BareFile). b.pages) h.2 in
-            pages_of_file false e id page h.0 h.1 (omega (arith, below, sizes))
-            ∙ in_common.2 page bytes below (λ j few. ap (λ (x : List Sector). disk_page x id page) (state_at j few) ∙ forced_at page bytes (s + j) (each (s + j) (omega arith) (by_then j few))),
-      )
+    -- the file in each crash state
+    there : (i : ℕ) → s ≤ i → i ≤ k → (g : File) × (disk_file false (now i) id ≡ Some g) × HasSettledSize id (size g) (place i) × (bare_file g ≡ record bare { pages = size g })
+    there i low high =
+        let f = shaped i low high in
+        let g = settled_on (now i) (place i) id f.0 (reveals i) f.1 in
+        let ids : g.0.id ≡ id = ((lowest_files.files_are_as_revealed false (now i)).revealed id g.0 g.1).1 in
+        let kinds : g.0.kind ≡ kind = g.2.same_kind ∙ f.2.0 in
+        let marks : g.0.permanent ≡ true = permanent (now i) id g.0 g.1 in
+        let fixed : g.0.immutable ≡ immutable = g.2.same_immutable ∙ f.2.1 in (
+          g.0,
+          g.1,
+          (f.0, f.1, sym (zip_long PageAgrees g.0.pages f.0.pages g.2.pages_agree)),
+          λ n. record { id = ids n; kind = kinds n; permanent = marks n; immutable = fixed n; pages = size g.0 },
+        )
+
+    whole_at : (j : ℕ) → j ≤ length since → IsWholeOn (crash_state first since j) id
+    whole_at j below =
+        let g = there (s + j) (omega arith) (by_then j below) in
+        subst (λ (x : List Sector). IsWholeOn x id) (sym (state_at j below)) (right_is_whole false (serial_of (now (s + j))) (counter_of (now (s + j))) (now (s + j)) id g.0 (reveals (s + j)).right.files g.1)
+
+    resized : IsResizedAlone false id first since
+    resized = (bare, λ j below. let g = there (s + j) (omega arith) (by_then j below) in (g.0, file_at_state j below ∙ g.1, g.3))
+
+    of_one : AtSome 0 (length since) (λ j. SameShape false (crash_state first since j) e id) × HasUnitsOfCrashStates false id first since 0 (length since) e
+    of_one = resized_of_one false first since e id cut_since whole_at resized
+
+    in_cut : (h : File) × (disk_file false e id ≡ Some h) × IsOfType kind immutable h × AtSome s k (λ i. HasSettledSize id (size h) (place i))
+    in_cut =
+        let one = of_one.0 in
+        let few_since : one.0 ≤ length since = one.2 in
+        let g = there (s + one.0) (omega arith) (by_then one.0 few_since) in
+        let h = file_of_shape false e id (bare_file g.0) (one.3 ∙ ap (λ (o : Option File). option_map bare_file o) (file_at_state one.0 few_since ∙ g.1)) in
+        let sizes : size g.0 ≡ size h.0 = sym (ap (λ (b : BareFile). b.pages) h.2) in (
+          h.0,
+          h.1,
+          (ap (λ (b : BareFile). b.kind) (h.2 ∙ g.3), ap (λ (b : BareFile). b.immutable) (h.2 ∙ g.3)),
+          (s + one.0, omega arith, by_then one.0 few_since, subst (λ (n : ℕ). HasSettledSize id n (place (s + one.0))) sizes g.2),
+        )
+
+    -- a page with the same bytes at each place
+    same_pages : (page : ℕ) (bytes : List ℕ) → AtEach m lines states.line states.step s k (HasForced id page bytes) → slice_get in_cut.0.pages page ≡ Some (map byte bytes)
+    same_pages page bytes each =
+        let own = of_one.1 page in_cut.0 in_cut.1 (λ j f low below is. slice_get_within f.pages page (map byte bytes) (forced_then j f below is)) in
+        own.1 ∙ ap (λ (c : Page). Some c) (same_units own.0 (map byte bytes) (λ u.
+        let some = own.2 u in
+        let unit_there = some.3 in
+        sym unit_there.4 ∙ ap (unit u) (same_Some unit_there.2 (map byte bytes) (sym unit_there.3 ∙ forced_then some.0 unit_there.0 some.2 unit_there.1))))
+      where
+        forced_then : (j : ℕ) (f : File) → j ≤ length since → disk_file false (crash_state first since j) id ≡ Some f → slice_get f.pages page ≡ Some (map byte bytes)
+        forced_then j f below is = forced_at page bytes (s + j) f (each (s + j) (omega arith) (by_then j below)) (sym (file_at_state j below) ∙ is)
+
+    kept : (f : File) × (disk_file false e id ≡ Some f) × IsOfType kind immutable f
+        × AtSome s k (λ i. HasSettledSize id (size f) (place i))
+        × ((page : ℕ) (bytes : List ℕ) → AtEach m lines states.line states.step s k (HasForced id page bytes) → slice_get f.pages page ≡ Some (map byte bytes))
+    kept = let h = in_cut in (h.0, h.1, h.2, h.3, same_pages)
 
 -- of a run
 pub keeps_forced : (m : Machine) (lines : List TraceLine) (d : List Sector) {a c : DiskState} → CrashStates m lines a c → a.contents ≡ Some d → KeepsForced m lines d a c
 keeps_forced m lines d states revealed = record {
   places = states;
-  files = λ id kind pages s k immutable e ordered few cut shaped. kept m lines d states revealed id kind pages s k immutable e ordered few cut shaped;
+  files = λ id kind s k immutable e ordered few cut shaped. kept m lines d states revealed id s k e ordered few cut kind immutable shaped;
+  no_other = λ id s k e ordered few cut each. none_in_cut m lines d states revealed id s k e ordered few cut each;
 }

@@ -1,19 +1,18 @@
 -- What spares a file, part by part of a run.
-use Rattle.std.proofs.Common.{◌≡◌, ◌⊎◌, inl, inr, ℕ, zero, suc, ◌+◌, ◌-◌, ◌<◌, ◌≤◌, Bool, true, false, List, [], ◌∷◌, ◌++◌, length, take, Option, Some, None, refl, sym, ◌∙◌, ap, subst, arith, length-append}
-use Rattle.std.specs.Prelude.{option_map, slice_get}
+use Rattle.std.proofs.Common.{◌≡◌, inl, inr, ℕ, zero, suc, ◌+◌, ◌-◌, ◌<◌, ◌≤◌, Bool, false, List, [], ◌∷◌, ◌++◌, length, take, Option, Some, refl, sym, ◌∙◌, ap, subst, arith, length-append}
+use Rattle.std.specs.Prelude.{option_map}
 use Rattle.std.specs.List.{list_any}
 use Rattle.std.specs.Option.{option_map_or}
 use Rattle.std.proofs.lemmas.Bool.{cases_eq, cases_lt, or_from, or_parts}
-use Rattle.std.proofs.lemmas.List.{append_cancel_left, take-append-le}
+use Rattle.std.proofs.lemmas.List.{take-append-le}
 use Rattle.std.proofs.lemmas.List.Folds.{list_any-append}
-use Rattle.std.proofs.lemmas.Option.{none-some, same_Some}
 use Rattle.labelled_disk.specs.declared.disk.DiskWrite.{DiskWrite}
 use Rattle.labelled_disk.specs.declared.disk.DiskWrite.TheVariants as write
 use Rattle.labelled_disk.specs.Calls.{RevealsSame}
 use Rattle.labelled_disk.specs.CrashState.{crash_state}
 use Rattle.labelled_disk.specs.Sectors.{Sector}
 use Rattle.labelled_disk.specs.State.{DiskState}
-use Rattle.labelled_disk.specs.WriteRuns.{Appended, after_writes}
+use Rattle.labelled_disk.specs.WriteRuns.{after_writes}
 use Rattle.labelled_disk.proofs.WriteRunLemmas.{crash_state-earlier, crash_state-later}
 use Rattle.frame_pool.specs.Frames.{Slots}
 use Rattle.flat_machine.specs.After.{TraceLine}
@@ -22,9 +21,9 @@ use Rattle.session_words.specs.Volume.{volume_page}
 use Rattle.pilot_engine.specs.Sparing.{HasSameLabels, IsLasting, Spares, SparesAll}
 use Rattle.pilot_engine.proofs.SparingLemmas.{labels_then, lasting_still, same_labels}
 use Rattle.pilot_engine.specs.Writing.{Written}
-use Rattle.pilot_top.specs.Parts.{InParts, PartMay}
-use Rattle.pilot_top.specs.Sparing.{IsUnnamed, KeepsUnnamed, OfShown, PartMakes, SparesInParts, maps_file, names_file, other_file, part_names, stores}
-use Rattle.pilot_top.proofs.LineParts.{get_first, may_longer}
+use Rattle.pilot_top.specs.Parts.{InParts}
+use Rattle.pilot_top.specs.Sparing.{IsUnnamed, KeepsUnnamed, OfShown, PartMakes, SparesInParts, maps_file, names_file, part_names, stores}
+use Rattle.pilot_top.proofs.LineParts.{get_first, may_longer, same_list}
 use Rattle.pilot_top.proofs.PartLemmas.{part_early, part_late, parts_none, parts_one, parts_still, parts_then, parts_wider}
 
 -- ---- Lines.
@@ -57,13 +56,6 @@ shown_longer limit lines more before hid part (write.Page sector wanted bytes) f
   λ none. is.0 (none_longer stores lines more part few none),
   λ id client low none hides. is.1 id client low (none_longer (maps_file id) lines more part few none) hides,
 )
-
--- ---- Lists of writes.
-
-pub same_list : {a b : DiskState} (earlier one other : List DiskWrite) → a.writes ≡ Some earlier → Appended one a b → Appended other a b → one ≡ other
-same_list earlier one other made first second =
-    append_cancel_left earlier one other (same_Some (earlier ++ one) (earlier ++ other)
-    (sym (first.revealed ∙ ap (option_map (λ (l : List DiskWrite). l ++ one)) made) ∙ (second.revealed ∙ ap (option_map (λ (l : List DiskWrite). l ++ other)) made)))
 
 -- ---- The labels of one file.
 

@@ -5,6 +5,7 @@ use Rattle.labelled_disk.specs.declared.evidence.Evidence.{Evidence}
 use Rattle.labelled_disk.specs.declared.evidence.Halt.TheVariants as halt
 use Rattle.labelled_disk.specs.State.{DiskState, lent_state}
 use Rattle.flat_machine.specs.Machine.{Machine}
+use Rattle.flat_machine.specs.Start.{start}
 use Rattle.trace_io.specs.EventReading.{event_reading}
 use Rattle.client_events.specs.Dropped.{waiting_clients}
 use Rattle.client_events.specs.declared.ending.Ending.{Ending}
@@ -15,13 +16,15 @@ use Rattle.pilot_engine.specs.declared.fault.StartFault.TheVariants as start_fau
 use Rattle.pilot_engine.specs.Opening.{IsOutside, IsSoAtStart}
 use Rattle.pilot_top.specs.Clients.{AnswersCrowd, AnswersEvents, CostsEvents, Follows, Keeps, Processes, RepliesToClients, carried_bound}
 use Rattle.pilot_top.specs.InitialState.{FromInitialState}
+use Rattle.pilot_top.specs.Headline.{IsLeftOpen}
 use Rattle.pilot_top.specs.Last.{last_line, Puts}
-use Rattle.pilot_top.specs.Processing.{ShowsDamage}
+use Rattle.pilot_top.specs.Processing.{Processed, ShowsDamage}
 use Rattle.pilot_top.specs.Stopping.{StopsAs}
+use Rattle.pilot_top.specs.World.{world}
 use Rattle.pilot_top.specs.declared.last.Cause.TheVariants as cause
 use Rattle.pilot_top.specs.declared.status.Status.{Status}
 use Rattle.pilot_top.specs.declared.status.Status.TheVariants as status
-use Rattle.pilot_top.proofs.AfterLemmas.{shut_after}
+use Rattle.pilot_top.proofs.AfterLemmas.{from_after, lawfully_after, none_rose_after, open_after, reads_after, shut_after, so_there}
 use Rattle.pilot_top.proofs.PutLemmas.{put_alone}
 use Rattle.pilot_top.proofs.RunLemmas.{how}
 
@@ -167,7 +170,7 @@ module _ {D : Type 0} (state : D → DiskState) (x y : D) (same : x ≡ y) (n : 
   crowd_after : (s : Status) (m : Machine) (b : List ℕ) (left : Option (List ℕ)) (t : List ℕ) (took : Option (List ℕ)) (failed : Type 0) → AnswersCrowd s m b left t took failed (lent_state n (state y)) → AnswersCrowd s m b left t took failed (state x)
   crowd_after s m b left t took failed is = record { crowd = is.crowd; answered = is.answered; keeps = λ other. keeps_after is.answered.how is.crowd.machine (is.keeps other) }
 
-  pub processes_after : (s : Status) (m : Machine) (b : List ℕ) (left : Option (List ℕ)) (t : List ℕ) (took : Option (List ℕ)) (failed : Type 0) → Processes s m b left t took failed (lent_state n (state y)) → Processes s m b left t took failed (state x)
+  processes_after : (s : Status) (m : Machine) (b : List ℕ) (left : Option (List ℕ)) (t : List ℕ) (took : Option (List ℕ)) (failed : Type 0) → Processes s m b left t took failed (lent_state n (state y)) → Processes s m b left t took failed (state x)
   processes_after status.DiskFault m b left t took failed (inl is) = inl is
   processes_after status.DiskFault m b left t took failed (inr is) = inr (crowd_after status.DiskFault m b left t took failed is)
   processes_after status.NotOpened m b left t took failed is = is
@@ -180,5 +183,27 @@ module _ {D : Type 0} (state : D → DiskState) (x y : D) (same : x ≡ y) (n : 
   processes_after status.Unfit m b left t took failed is = crowd_after status.Unfit m b left t took failed is
 
   -- and what it costs
-  pub costs_after : (b : List ℕ) (least : ℕ) (before : DiskState) (m : ℕ) → CostsEvents b least (lent_state m before) (lent_state n (state y)) → CostsEvents b least before (state x)
+  costs_after : (b : List ℕ) (least : ℕ) (before : DiskState) (m : ℕ) → CostsEvents b least (lent_state m before) (lent_state n (state y)) → CostsEvents b least before (state x)
   costs_after b least before m cost = record { items = cost.items; more = cost.more; first = cost.first; calls = cost.calls; may = cost.may; most = rw same cost.most }
+
+-- so all is that `processes` does
+module _ {D : Type 0} (state : D → DiskState) (x y : D) (same : x ≡ y) (first : DiskState) (m n : ℕ) where
+  shown_after : (e : Evidence) → ShowsDamage (lent_state m first) (lent_state n (state y)) e → ShowsDamage first (state x) e
+  shown_after e is = (so_there state x y same n e is.0, from_after state x y same first m n e is.1)
+
+  pub processed_after : {s : Status} {left0 took0 left1 took1 : Option (List ℕ)} {source0 sink0 source1 sink1 : ℕ} → Processed s (world (lent_state m first) left0 source0 took0 sink0) (world (lent_state n (state y)) left1 source1 took1 sink1)
+      → Processed s (world first left0 source0 took0 sink0) (world (state x) left1 source1 took1 sink1)
+  processed_after {s = s} {left1 = left1} {took1 = took1} r = record {
+    answers = λ d b t revealed sound source sink. processes_after state x y same n s (start d) b left1 t took1 _ (r.answers d b t revealed sound source sink);
+    replied = λ b t source sink. replies_less _ (ShowsDamage first (state x)) shown_after _ (IsLeftOpen (state x)) (open_after state x y same) s b left1 t took1 _ (r.replied b t source sink);
+    transfers = λ d b t revealed sound source sink. costs_after state x y same n b (2 * other_bound first.sectors) first m (r.transfers d b t revealed sound source sink);
+    permitted = lawfully_after state x y same first m n r.permitted;
+    left_open = λ is. open_after state x y same (r.left_open is);
+    damage = λ is. let all = r.damage is in (all.0, shown_after all.0 all.1);
+    sound = r.sound;
+    not_opened = r.not_opened;
+    refused = r.refused;
+    refused_unwritten = λ d why revealed refused. reads_after state x y same first m n (r.refused_unwritten d why revealed refused);
+    complete = λ d b revealed sound source short disk_held source_held sink_held. r.complete d b revealed sound source short (none_rose_after state first.faults x y disk_held same) source_held sink_held;
+    short = r.short;
+  }

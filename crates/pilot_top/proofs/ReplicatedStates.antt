@@ -1,5 +1,5 @@
 -- What stands on the second disk after each write of a `replicate`, where it was looked at before, or not written at all.
-use Rattle.std.proofs.Common.{◌≡◌, ◌+◌, inl, inr, ℕ, zero, suc, List, [], ◌∷◌, ◌++◌, length, Option, Some, refl, sym, ◌∙◌, subst, arith}
+use Rattle.std.proofs.Common.{◌≡◌, ◌+◌, ℕ, zero, suc, List, [], ◌∷◌, ◌++◌, length, Option, Some, refl, sym, ◌∙◌, subst, arith}
 use Rattle.std.proofs.lemmas.Option.{none-some, same_Some}
 use Rattle.labelled_disk.proofs.WriteRunLemmas.{appended_none}
 use Rattle.labelled_disk.specs.declared.disk.DiskWrite.{DiskWrite}

@@ -34,8 +34,8 @@ use Rattle.pilot_engine.proofs.SparingLemmas.{no_label, own_label, spares_then}
 use Rattle.pilot_engine.specs.Writing.{Written}
 use Rattle.pilot_top.specs.Parts.{PartMay}
 use Rattle.pilot_top.specs.Sparing.{HasSameSectors, IsPermanentFile, OfShown, PartMakes, RunSpares, Spared, SparesInParts, names_file, other_file, sector_for}
-use Rattle.pilot_top.proofs.LineParts.{start_wrote}
-use Rattle.pilot_top.proofs.PartSpareLemmas.{same_list, spares_longer, spares_none, spares_started}
+use Rattle.pilot_top.proofs.LineParts.{same_list, start_wrote}
+use Rattle.pilot_top.proofs.PartSpareLemmas.{spares_longer, spares_none, spares_started}
 use Rattle.pilot_top.proofs.SparedLineLemmas.{own_other}
 
 -- ---- The bytes.

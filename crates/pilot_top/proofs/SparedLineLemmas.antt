@@ -9,7 +9,7 @@ use Rattle.labelled_disk.specs.declared.disk.DiskWrite.{DiskWrite}
 use Rattle.labelled_disk.specs.declared.disk.DiskWrite.TheVariants as write
 use Rattle.labelled_disk.specs.declared.label.Wanted.{Wanted}
 use Rattle.labelled_disk.specs.Calls.{RevealsSame}
-use Rattle.labelled_disk.specs.CrashState.{crash_state, written}
+use Rattle.labelled_disk.specs.CrashState.{crash_state}
 use Rattle.labelled_disk.specs.Sectors.{Sector}
 use Rattle.labelled_disk.specs.State.{DiskState}
 use Rattle.labelled_disk.proofs.WriteRunLemmas.{appended_no_more}
@@ -38,8 +38,8 @@ use Rattle.pilot_top.specs.Sparing.{LineDone, OfShown, RunSpares, SparesInParts,
 use Rattle.pilot_top.specs.Turn.{EndsTrace}
 use Rattle.pilot_top.specs.declared.turn.End.{End}
 use Rattle.pilot_top.specs.declared.turn.End.TheVariants as end
-use Rattle.pilot_top.proofs.LineParts.{get_end, get_next}
-use Rattle.pilot_top.proofs.PartSpareLemmas.{none_first, none_last, none_of, same_list, spares_later, spares_longer, spares_none, spares_part, spares_rest}
+use Rattle.pilot_top.proofs.LineParts.{get_end, get_next, same_list}
+use Rattle.pilot_top.proofs.PartSpareLemmas.{none_first, none_last, none_of, spares_later, spares_longer, spares_none, spares_part, spares_rest}
 use Rattle.pilot_top.proofs.PrefixLemmas.{read_prefix}
 
 -- ---- One call.

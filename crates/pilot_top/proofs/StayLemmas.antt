@@ -26,16 +26,16 @@ use Rattle.volume_root.specs.declared.root.Root.{Root}
 use Rattle.volume_root.specs.RootPage.{root_in}
 use Rattle.file_manager.specs.Creating.{IsMonotone, next_id}
 use Rattle.pilot_engine.specs.Opening.{WroteFirst}
-use Rattle.pilot_engine.specs.Sparing.{HasSameLabels, IsLasting, label_for}
+use Rattle.pilot_engine.specs.Sparing.{HasSameLabels, label_for}
 use Rattle.pilot_top.specs.Parts.{InParts, PartMay}
-use Rattle.pilot_top.specs.Sparing.{HasSameSectors, IsUnnamed, NoneUpTo, OfShown, PartMakes, RunSpares, Spared, SparesInParts, maps_file, sector_for, stores}
+use Rattle.pilot_top.specs.Sparing.{HasSameSectors, NoneUpTo, OfShown, PartMakes, RunSpares, Spared, SparesInParts, maps_file, sector_for, stores}
 use Rattle.pilot_top.specs.Staying.{IsCutSinceNamed, StaysInCuts, StaysSinceNamed}
 use Rattle.pilot_top.proofs.PartLemmas.{parts_wider}
 use Rattle.pilot_top.proofs.PartSpareLemmas.{spares_longer, spares_none}
 use Rattle.pilot_top.proofs.SparedLineLemmas.{own_other}
 use Rattle.pilot_top.proofs.SpareLemmas.{IsOtherPage, no_sector, none_dirty, own_sector, run_in_parts, sectors_then, start_in_parts, write_same}
 
--- a sector that is told of this file
+-- a sector that is put into the sink of this file
 named_sector : (id : ℕ) (o : Option Sector) (s : Sector) → sector_for id o ≡ Some s → o ≡ Some s
 named_sector id None s is = absurd (none-some s is)
 named_sector id (Some t) s is = elim (cases_eq t.0.id id) [

@@ -62,8 +62,8 @@ pub record Ran (s : Status) (before after : World) : Type 0 where
       → IsPermanentFile id d → list_any (names_file id) (reading b) ≡ false → StaysInCuts id (reading b) d before.disk after.disk
   pub stays_since : (d : List Sector) (earlier : List DiskWrite) (b : List ℕ) → Holds before d → before.disk.writes ≡ Some earlier → Gives before b
       → StaysSinceNamed (reading b) d before.disk after.disk
-  -- And on a sound volume: what the machine's settled files have in common at all places since the disk was synced is in each cut, a page
-  -- with the bytes that were forced.
+  -- And on a sound volume: a file that the machine has settled at all places since the disk was synced is in each cut, with a size that it
+  -- has at one of them, and a page with the bytes that were forced; one that it has settled at none of them is not.
   pub forced : (d : List Sector) (b : List ℕ) → Holds before d → Sound d → Gives before b → KeepsForced (start d) (reading b) d before.disk after.disk
   -- Where it ended before its session did, the volume is left open; so where lines are left after the one that was answered
   -- last, and where the trace is too long or the volume damaged, whatever the source reveals.

@@ -1,5 +1,5 @@
 //! Clients of a session that wait for their pages: their events are answered, and the session is ended.
-ghost use Rattle.std.specs.Prelude.{◌≡◌, ◌≢◌, ◌⊎◌, ◌≤◌, ℕ, List, Some};
+ghost use Rattle.std.specs.Prelude.{◌≡◌, ◌≢◌, ◌⊎◌, ℕ, List, Some};
 ghost use Rattle.std.specs.Io.KnownBytes.{Appends};
 ghost use Rattle.labelled_disk.specs.declared.evidence.Evidence.{Evidence};
 ghost use Rattle.labelled_disk.specs.Calls.{RevealsSame, Rose};
@@ -17,7 +17,10 @@ ghost use Rattle.pilot_top.specs.CrashStates.{ShutsLast};
 ghost use Rattle.pilot_top.specs.Headline.{IsLeftOpen};
 ghost use Rattle.pilot_top.specs.InitialState.{FromEachInitialState};
 ghost use Rattle.pilot_top.specs.Last.{last_line, Puts};
+ghost use Rattle.pilot_top.specs.Lines.{session_disk};
 ghost use Rattle.pilot_top.specs.Processing.{IsShortText};
+ghost use Rattle.pilot_top.specs.Started.{HasCauses};
+ghost use Rattle.pilot_top.specs.World.{world};
 ghost use Rattle.filer_kernel.specs.Evidence.{IsEvident};
 ghost use Rattle.fault_core.specs.Core.{state};
 
@@ -124,13 +127,11 @@ pub(crate) fn answer_clients<D: Disk, A: Allocator, S: Source, K: Sink>(
         × FromEachInitialState session (D.state result.1) e }
     ensures sound { (m : Machine) → StandsAs session m → result.0 ≢ Status.Damaged }
     ensures same_disk { Went (state session.core).disk (D.state result.1) }
-    ensures disk_cause { result.0 ≡ Status.DiskFault → Rose (state session.core).disk.faults (D.state result.1).faults }
-    ensures stream_cause { result.0 ≡ Status.StreamFault → Rose (S.faults source.old) (S.faults source.new)
-        ⊎ Rose (K.faults sink.old) (K.faults sink.new) }
     ensures short { (b : List ℕ) → S.left source.old ≡ Some b → result.0 ≡ Status.Done → IsShortText b }
-    ensures long { (b : List ℕ) → S.left source.old ≡ Some b → result.0 ≡ Status.Long → ¬ IsShortText b }
-    ensures opened { (result.0 ≢ Status.Usage) × (result.0 ≢ Status.NotOpened) }
-    ensures no_other { result.0 ≢ Status.NoMemory × result.0 ≢ Status.Unfit }
+    ensures causes { HasCauses IsShortText result.0
+        (world (session_disk session) (S.left source.old) (S.faults source.old) (K.took sink.old) (K.faults sink.old))
+        (world (D.state result.1) (S.left source.new) (S.faults source.new) (K.took sink.new) (K.faults sink.new)) }
+    ensures began { result.0 ≢ Status.NotOpened × result.0 ≢ Status.NoMemory }
 {
     let mut flights = Flights::new(session);
     match answer_events(&mut flights, source, sink) {

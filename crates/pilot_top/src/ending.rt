@@ -1,20 +1,16 @@
 //! A run is stopped, or what waits before its disk is brought to the medium.
-ghost use Rattle.std.specs.Prelude.{◌≡◌, ◌≢◌, ◌⊎◌, ◌≤◌, Some, None, true};
+ghost use Rattle.std.specs.Prelude.{◌≡◌, ◌⊎◌, ◌≤◌, Some, None};
 ghost use Rattle.labelled_disk.specs.declared.evidence.Evidence.{Evidence};
 ghost use Rattle.labelled_disk.specs.Calls.{RevealsSame, Rose};
 ghost use Rattle.flat_machine.specs.Machine.{Machine};
 ghost use Rattle.swapper_kernel.specs.Goes.{Went};
-ghost use Rattle.running_words.specs.Bound.{CostsOther};
 ghost use Rattle.running_words.specs.Running.{Runs};
-ghost use Rattle.running_words.specs.Session.{IsOpen};
-ghost use Rattle.pilot_engine.specs.Closing.{HasShut, IsStop, ShutsBySync, Throughout, WroteOn};
-ghost use Rattle.pilot_engine.specs.Sparing.{SparesAll};
-ghost use Rattle.pilot_engine.specs.Opening.{IsUnset};
+ghost use Rattle.pilot_engine.specs.Referring.{TakesCalls};
+ghost use Rattle.pilot_top.specs.Ended.{EndsAs, StopsEnding, WritesEnd};
 ghost use Rattle.pilot_top.specs.InitialState.{FromEachInitialState};
 ghost use Rattle.pilot_top.specs.Last.{last_line, Puts};
-ghost use Rattle.pilot_top.specs.RunDisk.{HasSeen, halt_on};
+ghost use Rattle.pilot_top.specs.RunDisk.{halt_on};
 ghost use Rattle.pilot_top.specs.Stopping.{cause_of, status_of};
-ghost use Rattle.filer_kernel.specs.View.{FitsLayout};
 ghost use Rattle.fault_core.specs.Core.{state};
 
 use crate::Status;
@@ -96,37 +92,16 @@ pub(crate) fn close_run<D: RunDisk, A: Allocator, K: Sink>(
     session: Session<D, A>,
     sink: &mut K,
 ) -> (Option<Status>, D)
-    requires size { FitsLayout (state session.core) }
-    requires opened { IsOpen (state session.core).layout session.volume }
-    requires running { session.running ≡ true }
-    ensures closed { (m : Machine) → Runs session.core session.volume m
-        → result.0 ≡ None → HasShut m (D.state result.1) }
+    requires ready { TakesCalls session }
+    ensures stands { (m : Machine) → Runs session.core session.volume m
+        → EndsAs m (result.0 ≡ None) (result.0 ≡ Some Status.Damaged) (state session.core).disk (D.state result.1) }
     ensures rests { result.0 ≡ None → D.rests result.1 }
-    ensures stops { (m : Machine) → Runs session.core session.volume m
-        → Throughout (IsStop m) (state session.core).disk (D.state result.1) }
-    ensures sound { (m : Machine) → Runs session.core session.volume m
-        → result.0 ≢ Some Status.Damaged }
-    ensures cost { (m : Machine) → Runs session.core session.volume m
-        → CostsOther (state session.core).disk (D.state result.1) }
-    ensures quiet { result.0 ≡ None → sink.new ≡ sink.old }
-    ensures disk_fault { result.0 ≡ Some Status.DiskFault
-        → (D.shown result.1 ≡ None) × Rose (state session.core).disk.faults (D.state result.1).faults
-        × Puts (Rose (K.faults sink.old) (K.faults sink.new)) (K.took sink.old) (K.took sink.new)
-        (last_line Cause.DiskFault) }
-    ensures damage { result.0 ≡ Some Status.Damaged
-        → (e : Evidence)
-        × HasSeen (D.shown result.1) (D.state result.1) (FromEachInitialState session (D.state result.1)) e
-        × Puts (Rose (K.faults sink.old) (K.faults sink.new)) (K.took sink.old) (K.took sink.new)
-        (last_line (Cause.Damaged e)) }
-    ensures left_open { IsUnset (state session.core).disk → result.0 ≡ Some Status.Damaged
-        → IsUnset (D.state result.1) }
-    ensures ends { (result.0 ≡ None) ⊎ (result.0 ≡ Some Status.DiskFault)
-        ⊎ (result.0 ≡ Some Status.Damaged) }
-    ensures wrote { WroteOn session.volume.root (state session.core).slots (state session.core).disk
+    ensures stops { StopsEnding result.0 (D.shown result.1) (FromEachInitialState session (D.state result.1))
+        (state session.core).disk (D.state result.1)
+        (Puts (Rose (K.faults sink.old) (K.faults sink.new)) (K.took sink.old) (K.took sink.new)) }
+    ensures writes { WritesEnd session.volume.root (state session.core).slots (state session.core).disk
         (D.state result.1) }
-    ensures spares { SparesAll (state session.core).disk (D.state result.1) }
-    ensures syncs { (m : Machine) → Runs session.core session.volume m
-        → ShutsBySync (state session.core).disk (D.state result.1) }
+    ensures quiet { result.0 ≡ None → sink.new ≡ sink.old }
     ensures later { K.faults sink.old ≤ K.faults sink.new }
 {
     let (closed, disk) = session.finish();

@@ -1,13 +1,12 @@
 //! New volumes.
-ghost use Rattle.std.specs.Prelude.{◌≡◌, ◌↔◌, ◌⊎◌, ℕ, ◌≤◌, ◌++◌, List, codes, decimal};
+ghost use Rattle.std.specs.Prelude.{◌≡◌, ◌⊎◌, ℕ, ◌≤◌, ◌++◌, List, codes, decimal};
 ghost use Rattle.cut_words.specs.Between.{EachCutFromFirstSync};
-ghost use Rattle.labelled_disk.specs.Calls.{OnlyReads, Rose};
-ghost use Rattle.labelled_disk.specs.Layout.{IsCount};
+ghost use Rattle.labelled_disk.specs.Calls.{Rose};
 ghost use Rattle.std.specs.Io.KnownBytes.{Appends};
 ghost use Rattle.trace_io.specs.Stream.{IsPrefixOf};
 ghost use Rattle.volume_root.specs.Format.{format_writes, IsNoneOrNew, PartMade};
 ghost use Rattle.pilot_top.specs.Last.{last_line, Puts};
-ghost use Rattle.pilot_top.specs.Making.{made_line, IsMade};
+ghost use Rattle.pilot_top.specs.Making.{IsMade, RefusesCount, made_line};
 
 use crate::Status;
 use crate::last::{Cause, put_last};
@@ -54,11 +53,8 @@ pub(crate) fn make_volume<D: Disk, K: Sink>(
         (D.state disk.old) (D.state disk.new) }
 
     // A count of sectors that no volume has.
-    ensures not_opened { result ≡ Status.NotOpened ↔ ¬ IsCount (D.state disk.old).sectors }
-    ensures unwritten { result ≡ Status.NotOpened → OnlyReads (D.state disk.old) (D.state disk.new) }
-    ensures count_line { result ≡ Status.NotOpened
-        → Puts (Rose (K.faults sink.old) (K.faults sink.new)) (K.took sink.old) (K.took sink.new)
-        (last_line (Cause.Root (RootFault.BadCount (D.state disk.old).sectors))) }
+    ensures refuses { RefusesCount result (D.state disk.old) (D.state disk.new)
+        (Puts (Rose (K.faults sink.old) (K.faults sink.new)) (K.took sink.old) (K.took sink.new)) }
 
     // The disk failed.
     ensures part { result ≡ Status.DiskFault

@@ -1,13 +1,11 @@
 //! A volume is restored, and what was found is revealed.
-ghost use Rattle.std.specs.Prelude.{◌≡◌, ◌≢◌, ◌⊎◌, ◌++◌, ℕ, List, [], Some, Err, true, false, length, slice_get, IfOk, OnOk};
-ghost use Rattle.std.specs.Io.KnownBytes.{Appends};
+ghost use Rattle.std.specs.Prelude.{◌≡◌, ◌⊎◌, ◌++◌, ℕ, List, [], Some, Err, true, false, length, slice_get, IfOk, OnOk};
 ghost use Rattle.cut_words.specs.Between.{EachCutFromFirstSync};
 ghost use Rattle.labelled_disk.specs.Calls.{OnlyReads, Rose, RevealsSame};
 ghost use Rattle.labelled_disk.specs.Layout.{IsCount};
 ghost use Rattle.labelled_disk.specs.CrashState.{crash_state};
 ghost use Rattle.labelled_disk.specs.Sectors.{Sector};
 ghost use Rattle.labelled_disk.specs.WriteRuns.{Appended};
-ghost use Rattle.trace_io.specs.Stream.{IsPrefixOf};
 ghost use Rattle.volume_root.specs.Format.{PartMade};
 ghost use Rattle.volume_root.specs.RootPage.{judged};
 ghost use Rattle.scavenger.specs.Opening.{Accords};
@@ -15,8 +13,8 @@ ghost use Rattle.scavenger.specs.Orders.{Orders, AreFor, scavenge_writes};
 ghost use Rattle.scavenger.specs.Reported.{lost_in, Reports};
 ghost use Rattle.scavenger.specs.Restored.{IsBetween, IsRestored, Survives};
 ghost use Rattle.pilot_top.specs.Last.{last_line, Puts};
-ghost use Rattle.pilot_top.specs.Reporting.{IsReport, restored_text};
-ghost use Rattle.pilot_top.specs.Scavenging.{IsNoVolume};
+ghost use Rattle.pilot_top.specs.Scavenging.{FailsToRestore, IsNoVolume, RestoresVolume, PutsReport};
+ghost use Rattle.pilot_top.specs.Started.{Refuses};
 
 use crate::Status;
 use crate::last::{Cause, put_last};
@@ -98,10 +96,7 @@ fn restored<A: Allocator + Clone, D: Disk>(
         → (D.state disk.old).contents ≡ Some g → IsNoVolume g why
         → OnlyReads (D.state disk.old) (D.state disk.new) }
 
-    ensures unwritten { (why : ScavengeFault) → result ≡ Err why → why ≢ ScavengeFault.Disk
-        → OnlyReads (D.state disk.old) (D.state disk.new) }
-    ensures cause { result ≡ Err ScavengeFault.Disk
-        → Rose (D.state disk.old).faults (D.state disk.new).faults }
+    ensures fails { FailsToRestore result (D.state disk.old) (D.state disk.new) }
 {
     look_at_root(disk)?;
     let mut report = empty_report(&alloc, disk.sectors())?;
@@ -120,68 +115,22 @@ pub(crate) fn restore_volume<A: Allocator + Clone, D: Disk, K: Sink>(
         ⊎ (result ≡ Status.DiskFault) ⊎ (result ≡ Status.NotOpened) ⊎ (result ≡ Status.NoMemory) }
 
     // What is restored, and revealed.
-    ensures restored { (result ≡ Status.Done) ⊎ (result ≡ Status.StreamFault)
-        → (g : List Sector) → (D.state disk.old).contents ≡ Some g
-        → (h : List Sector) × ((D.state disk.new).contents ≡ Some h) × IsRestored g h }
-    ensures synced { (result ≡ Status.Done) ⊎ (result ≡ Status.StreamFault)
-        → (D.state disk.new).synced ≡ true }
-    ensures text { result ≡ Status.Done → (g : List Sector) → (D.state disk.old).contents ≡ Some g
-        → Appends (K.took sink.old) (K.took sink.new) (restored_text g) }
-    ensures part_of_text { result ≡ Status.StreamFault → (g : List Sector)
-        → (D.state disk.old).contents ≡ Some g
-        → (prefix : List ℕ) × IsPrefixOf prefix (restored_text g)
-        × Appends (K.took sink.old) (K.took sink.new) prefix }
-    ensures some_text { result ≡ Status.Done → (text : List ℕ) × IsReport text
-        × Appends (K.took sink.old) (K.took sink.new) text }
-    ensures some_prefix { result ≡ Status.StreamFault → (text : List ℕ) × IsReport text
-        × (prefix : List ℕ) × IsPrefixOf prefix text
-        × Appends (K.took sink.old) (K.took sink.new) prefix }
-    ensures stream_cause { result ≡ Status.StreamFault
-        → Rose (K.faults sink.old) (K.faults sink.new) }
+    ensures restores { RestoresVolume result (D.state disk.old) (D.state disk.new) }
+    ensures puts { PutsReport result (D.state disk.old).contents (K.took sink.old) (K.took sink.new) }
 
-    // The writes: all of them, or where the disk failed none or some first ones.
-    ensures made { (result ≡ Status.Done) ⊎ (result ≡ Status.StreamFault)
-        → (g : List Sector) → (D.state disk.old).contents ≡ Some g
-        → (o : Orders) × AreFor g o
-        × Appended (scavenge_writes o) (D.state disk.old) (D.state disk.new) }
-    ensures part { result ≡ Status.DiskFault
-        → (g : List Sector) → (D.state disk.old).contents ≡ Some g
-        → RevealsSame (D.state disk.old) (D.state disk.new) ⊎ ((o : Orders) × AreFor g o
-        × PartMade (scavenge_writes o) (D.state disk.old) (D.state disk.new)) }
-    ensures crash_states { (g : List Sector) (before writes : List DiskWrite)
-        → (D.state disk.old).contents ≡ Some g → (D.state disk.old).writes ≡ Some before
-        → (D.state disk.new).writes ≡ Some (before ++ writes)
-        → (k : ℕ) → IsBetween g (crash_state g writes k) }
-    ensures cuts { EachCutFromFirstSync Survives (D.state disk.old) (D.state disk.new) }
+    // The disk has no volume that can be restored. Nothing is touched where there is no memory.
+    ensures refuses { Refuses IsNoVolume result (D.state disk.old) (D.state disk.new)
+        (Puts (Rose (K.faults sink.old) (K.faults sink.new)) (K.took sink.old) (K.took sink.new)) }
+    ensures keeps_sink { result ≡ Status.NoMemory → sink.new ≡ sink.old }
 
-    // The disk has no volume that can be restored.
-    ensures count { ¬ IsCount (D.state disk.old).sectors → result ≡ Status.NotOpened
-        × Puts (Rose (K.faults sink.old) (K.faults sink.new)) (K.took sink.old) (K.took sink.new)
-        (last_line (Cause.Root (RootFault.BadCount (D.state disk.old).sectors))) }
-    ensures not_opened { (g : List Sector) → (D.state disk.old).contents ≡ Some g
-        → result ≡ Status.NotOpened → (why : RootFault) × IsNoVolume g why
-        × Puts (Rose (K.faults sink.old) (K.faults sink.new)) (K.took sink.old) (K.took sink.new)
-        (last_line (Cause.Root why)) }
-    ensures refused { (g : List Sector) (why : RootFault) → (D.state disk.old).contents ≡ Some g
-        → IsNoVolume g why → result ≡ Status.NotOpened ⊎ result ≡ Status.DiskFault }
-    ensures refused_unwritten { (g : List Sector) (why : RootFault)
-        → (D.state disk.old).contents ≡ Some g → IsNoVolume g why
-        → OnlyReads (D.state disk.old) (D.state disk.new) }
-    ensures refused_line { result ≡ Status.NotOpened → (why : RootFault)
-        × Puts (Rose (K.faults sink.old) (K.faults sink.new)) (K.took sink.old) (K.took sink.new)
-        (last_line (Cause.Root why)) }
-    ensures unwritten { result ≡ Status.NotOpened → OnlyReads (D.state disk.old) (D.state disk.new) }
-
-    // Nothing is touched where there is no memory.
-    ensures no_memory { result ≡ Status.NoMemory
-        → OnlyReads (D.state disk.old) (D.state disk.new) × sink.new ≡ sink.old }
-
-    // The disk failed.
+    // The disk failed, or the sink.
     ensures disk_cause { result ≡ Status.DiskFault
         → Rose (D.state disk.old).faults (D.state disk.new).faults }
     ensures disk_line { result ≡ Status.DiskFault
         → Puts (Rose (K.faults sink.old) (K.faults sink.new)) (K.took sink.old) (K.took sink.new)
         (last_line Cause.DiskFault) }
+    ensures stream_cause { result ≡ Status.StreamFault
+        → Rose (K.faults sink.old) (K.faults sink.new) }
 {
     match restored(alloc, disk) {
         Ok(report) => match put_report(sink, &report) {

@@ -1,7 +1,5 @@
 //! A trial: drawn calls are carried out in a session on a new volume, and what came of them is revealed in one line.
-ghost use Rattle.std.specs.Prelude.{◌≡◌, ◌≢◌, ◌↔◌, ◌⊎◌, ◌<◌, ◌≤◌, ◌++◌, ℕ, List, Some, true, false, length, slice_get, IfOk, IfErr, OnOk, Err};
-ghost use Rattle.std.specs.Io.KnownBytes.{Appends};
-ghost use Rattle.labelled_disk.specs.declared.evidence.Evidence.{Evidence};
+ghost use Rattle.std.specs.Prelude.{◌≡◌, ◌≢◌, ◌⊎◌, ◌<◌, ◌≤◌, ◌++◌, List, Some, true, false, length, slice_get, IfOk, IfErr, OnOk, Err};
 ghost use Rattle.labelled_disk.specs.declared.evidence.Halt.TheVariants as halt;
 ghost use Rattle.labelled_disk.specs.Sectors.{Sector};
 ghost use Rattle.labelled_disk.specs.Calls.{OnlyReads, Rose};
@@ -11,26 +9,26 @@ ghost use Rattle.flat_machine.specs.After.{ends_trace};
 ghost use Rattle.flat_machine.specs.Form.{IsInForm};
 ghost use Rattle.flat_machine.specs.Machine.{Machine};
 ghost use Rattle.swapper_kernel.specs.Goes.{Went};
-ghost use Rattle.filer_kernel.specs.Evidence.{IsEvident, ShowsEvidence};
+ghost use Rattle.filer_kernel.specs.Evidence.{ShowsEvidence};
 ghost use Rattle.volume_root.specs.Later.{IsLater};
-ghost use Rattle.trace_io.specs.Stream.{IsPrefixOf};
 ghost use Rattle.pilot_engine.specs.Closing.{HasShut};
 ghost use Rattle.running_words.specs.Session.{IsOpen};
 ghost use Rattle.running_words.specs.Running.{Runs};
 ghost use Rattle.pilot_top.specs.Counting.{AreOf};
-ghost use Rattle.pilot_top.specs.Last.{last_line, Puts};
+ghost use Rattle.pilot_top.specs.Last.{Puts};
+ghost use Rattle.pilot_top.specs.Making.{RefusesCount};
 ghost use Rattle.pilot_top.specs.CrashStates.{Openly, ShutsLast};
-ghost use Rattle.pilot_top.specs.Trial.{HasAnswered, HasNoFile, IsTrial, IsTrialOf, TriesLawfully, after_calls, drawn_calls, first_calls, trial_line};
+ghost use Rattle.pilot_top.specs.Trial.{HasAnswered, HasNoFile, IsTrial, IsTrialOf, TriesLawfully, after_calls, drawn_calls, first_calls};
+ghost use Rattle.pilot_top.specs.TrialEnding.{PutsTrial, StopsTrial};
 ghost use Rattle.filer_kernel.specs.View.{FitsLayout};
 ghost use Rattle.fault_core.specs.Core.{state};
 
 use crate::Status;
 use crate::closing::close;
 use crate::counting::Counts;
-use crate::last::Cause;
 use crate::stopping::{refuse, stop};
 use flat_machine::Call;
-use labelled_disk::{Disk, Halt, RootFault};
+use labelled_disk::{Disk, Halt};
 use pilot_engine::Session;
 use std::alloc::Allocator;
 use trace_io::Sink;
@@ -168,27 +166,16 @@ fn try_session<D: Disk, A: Allocator, K: Sink>(
     requires running { session.running ≡ true }
     ensures ends { (result.0 ≡ Status.Done) ⊎ (result.0 ≡ Status.StreamFault)
         ⊎ (result.0 ≡ Status.DiskFault) ⊎ (result.0 ≡ Status.Damaged) }
-    ensures line { result.0 ≡ Status.Done → (replies : List Reply) × (length replies ≡ calls)
-        × ((m : Machine) → Runs session.core session.volume m → IsTrialOf m seed calls replies)
-        × Appends (K.took sink.old) (K.took sink.new) (trial_line calls replies) }
-    ensures part_of_line { result.0 ≡ Status.StreamFault → (replies : List Reply) × (length replies ≡ calls)
-        × ((m : Machine) → Runs session.core session.volume m → IsTrialOf m seed calls replies)
-        × (prefix : List ℕ) × IsPrefixOf prefix (trial_line calls replies)
-        × Appends (K.took sink.old) (K.took sink.new) prefix }
+    ensures puts { PutsTrial calls result.0
+        (λ replies. (m : Machine) → Runs session.core session.volume m → IsTrialOf m seed calls replies)
+        (K.took sink.old) (K.took sink.new) }
     ensures left { (m : Machine) → Runs session.core session.volume m
         → (result.0 ≡ Status.Done) ⊎ (result.0 ≡ Status.StreamFault)
         → HasShut (after_calls m (first_calls ++ drawn_calls seed calls)) (D.state result.1) }
     ensures sound { (m : Machine) → Runs session.core session.volume m → result.0 ≢ Status.Damaged }
-    ensures disk_cause { result.0 ≡ Status.DiskFault
-        → Rose (state session.core).disk.faults (D.state result.1).faults }
-    ensures disk_line { result.0 ≡ Status.DiskFault
-        → Puts (Rose (K.faults sink.old) (K.faults sink.new)) (K.took sink.old) (K.took sink.new)
-        (last_line Cause.DiskFault) }
-    ensures stream_cause { result.0 ≡ Status.StreamFault
-        → Rose (K.faults sink.old) (K.faults sink.new) }
-    ensures damage_line { result.0 ≡ Status.Damaged → (e : Evidence) × IsEvident (D.state result.1) e
-        × Puts (Rose (K.faults sink.old) (K.faults sink.new)) (K.took sink.old) (K.took sink.new)
-        (last_line (Cause.Damaged e)) }
+    ensures stops { StopsTrial result.0 (state session.core).disk (D.state result.1)
+        (Rose (K.faults sink.old) (K.faults sink.new))
+        (Puts (Rose (K.faults sink.old) (K.faults sink.new)) (K.took sink.old) (K.took sink.new)) }
     ensures permitted { ShutsLast (state session.core).disk (D.state result.1) }
     ensures went { Went (state session.core).disk (D.state result.1) }
 {
@@ -222,13 +209,10 @@ pub(crate) fn run_trial<A: Allocator, D: Disk, K: Sink>(
     ensures ends { (result.0 ≡ Status.Done) ⊎ (result.0 ≡ Status.StreamFault)
         ⊎ (result.0 ≡ Status.DiskFault) ⊎ (result.0 ≡ Status.NotOpened)
         ⊎ (result.0 ≡ Status.NoMemory) ⊎ (result.0 ≡ Status.Damaged) }
-    ensures line { result.0 ≡ Status.Done → (replies : List Reply) × (length replies ≡ calls)
-        × ((d : List Sector) → (D.state disk).contents ≡ Some d → IsTrial (D.state disk).sectors seed calls replies)
-        × Appends (K.took sink.old) (K.took sink.new) (trial_line calls replies) }
-    ensures part_of_line { result.0 ≡ Status.StreamFault → (replies : List Reply) × (length replies ≡ calls)
-        × ((d : List Sector) → (D.state disk).contents ≡ Some d → IsTrial (D.state disk).sectors seed calls replies)
-        × (prefix : List ℕ) × IsPrefixOf prefix (trial_line calls replies)
-        × Appends (K.took sink.old) (K.took sink.new) prefix }
+    ensures puts { PutsTrial calls result.0
+        (λ replies.
+        (d : List Sector) → (D.state disk).contents ≡ Some d → IsTrial (D.state disk).sectors seed calls replies)
+        (K.took sink.old) (K.took sink.new) }
     ensures left { (d : List Sector) → (D.state disk).contents ≡ Some d
         → (result.0 ≡ Status.Done) ⊎ (result.0 ≡ Status.StreamFault)
         → HasNoFile (D.state result.1) }
@@ -238,26 +222,16 @@ pub(crate) fn run_trial<A: Allocator, D: Disk, K: Sink>(
         → (result.0 ≡ Status.Done) ⊎ (result.0 ≡ Status.NoMemory) }
 
     // A count of sectors that no volume has; and no memory for the frames.
-    ensures not_opened { result.0 ≡ Status.NotOpened ↔ ¬ IsCount (D.state disk).sectors }
-    ensures count_line { result.0 ≡ Status.NotOpened
-        → Puts (Rose (K.faults sink.old) (K.faults sink.new)) (K.took sink.old) (K.took sink.new)
-        (last_line (Cause.Root (RootFault.BadCount (D.state disk).sectors))) }
-    ensures unwritten { result.0 ≡ Status.NotOpened → OnlyReads (D.state disk) (D.state result.1) }
+    ensures refuses { RefusesCount result.0 (D.state disk) (D.state result.1)
+        (Puts (Rose (K.faults sink.old) (K.faults sink.new)) (K.took sink.old) (K.took sink.new)) }
     ensures memory { result.0 ≡ Status.NoMemory
         → OnlyReads (D.state disk) (D.state result.1) × (sink.new ≡ sink.old) }
 
     // Disk or sink failed; on a disk that reveals what it holds, no damage is found.
-    ensures disk_cause { result.0 ≡ Status.DiskFault
-        → Rose (D.state disk).faults (D.state result.1).faults }
-    ensures disk_line { result.0 ≡ Status.DiskFault
-        → Puts (Rose (K.faults sink.old) (K.faults sink.new)) (K.took sink.old) (K.took sink.new)
-        (last_line Cause.DiskFault) }
-    ensures stream_cause { result.0 ≡ Status.StreamFault
-        → Rose (K.faults sink.old) (K.faults sink.new) }
+    ensures stops { StopsTrial result.0 (D.state disk) (D.state result.1)
+        (Rose (K.faults sink.old) (K.faults sink.new))
+        (Puts (Rose (K.faults sink.old) (K.faults sink.new)) (K.took sink.old) (K.took sink.new)) }
     ensures sound { (d : List Sector) → (D.state disk).contents ≡ Some d → result.0 ≢ Status.Damaged }
-    ensures damage_line { result.0 ≡ Status.Damaged → (e : Evidence) × IsEvident (D.state result.1) e
-        × Puts (Rose (K.faults sink.old) (K.faults sink.new)) (K.took sink.old) (K.took sink.new)
-        (last_line (Cause.Damaged e)) }
     ensures permitted { TriesLawfully (D.state disk) (D.state result.1) }
     ensures later { IsLater (D.state disk) (D.state result.1) }
 {

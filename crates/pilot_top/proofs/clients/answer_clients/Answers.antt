@@ -103,12 +103,14 @@ returns-in-Close g c =
       damage = λ damaged. let why = e.damage damaged in (why.1, why.2, reason why.1 why.3);
       sound = λ m is. let here = row_stands m c.args.session carries.0 f.stepped is row running in e.sound here.0 here.1;
       same_disk = went_then led.went e.wrote.went;
-      disk_cause = λ is. rose_later _ _ _ led.went.faults (e.disk_fault is).1;
-      stream_cause = λ is. inr (later (e.part is).0);
       short = λ b left is. c.in-Close.ensures.reason.short b left (inl refl);
-      long = λ b left is. absurd (other.0 is);
-      opened = (other.1, other.2);
-      no_other = (other.3, other.4);
+      causes = record {
+        disk = λ is. rose_later _ _ _ led.went.faults (e.disk_fault is).1;
+        stream = λ is. inr (later (e.part is).0);
+        long = λ b left is. absurd (other.0 is);
+        no_other = (other.1, other.4);
+      };
+      began = (other.2, other.3);
     }
 
 -- the session was ended as it was
@@ -166,12 +168,14 @@ returns-in-Halt g c =
       damage = λ damaged. let why = e.damage damaged in (why.1, why.2, reason why.1 why.3);
       sound = λ m is. let here = row_stands m c.args.session carries.0 f.stepped is row running in e.sound here.0 here.1;
       same_disk = went_then led.went e.wrote.went;
-      disk_cause = λ is. rose_later _ _ _ led.went.faults (e.disk_fault is).1;
-      stream_cause = λ is. inr (later (e.part is).0);
       short = λ b left is. c.in-Halt.ensures.reason.short b left (inr (inl refl));
-      long = λ b left is. absurd (other.0 is);
-      opened = (other.1, other.2);
-      no_other = (other.3, other.4);
+      causes = record {
+        disk = λ is. rose_later _ _ _ led.went.faults (e.disk_fault is).1;
+        stream = λ is. inr (later (e.part is).0);
+        long = λ b left is. absurd (other.0 is);
+        no_other = (other.1, other.4);
+      };
+      began = (other.2, other.3);
     }
 
 -- the session was ended where the text ends
@@ -229,12 +233,14 @@ returns-in-End g c =
       damage = λ damaged. let why = e.damage damaged in (why.1, why.2, reason why.1 why.3);
       sound = λ m is. let here = row_stands m c.args.session carries.0 f.stepped is row running in e.sound here.0 here.1;
       same_disk = went_then led.went e.wrote.went;
-      disk_cause = λ is. rose_later _ _ _ led.went.faults (e.disk_fault is).1;
-      stream_cause = λ is. inr (later (e.part is).0);
       short = λ b left is. c.in-End.ensures.reason.short b left (inr (inr refl));
-      long = λ b left is. absurd (other.0 is);
-      opened = (other.1, other.2);
-      no_other = (other.3, other.4);
+      causes = record {
+        disk = λ is. rose_later _ _ _ led.went.faults (e.disk_fault is).1;
+        stream = λ is. inr (later (e.part is).0);
+        long = λ b left is. absurd (other.0 is);
+        no_other = (other.1, other.4);
+      };
+      began = (other.2, other.3);
     }
 
 -- as many bytes as the limit were taken
@@ -282,12 +288,14 @@ returns-in-Long g c =
       damage = λ damaged. absurd (cc damaged);
       sound = λ m is damaged. cc damaged;
       same_disk = rw same led.went;
-      disk_cause = λ is. absurd (cc is);
-      stream_cause = λ is. absurd (cc is);
       short = λ b left is. absurd (cc is);
-      long = λ b left is. c.in-Long.ensures.reason.long b left refl;
-      opened = (λ is. cc is, λ is. cc is);
-      no_other = (λ is. cc is, λ is. cc is);
+      causes = record {
+        disk = λ is. absurd (cc is);
+        stream = λ is. absurd (cc is);
+        long = λ b left is. c.in-Long.ensures.reason.long b left refl;
+        no_other = (λ is. cc is, λ is. cc is);
+      };
+      began = (λ is. cc is, λ is. cc is);
     }
 
 -- the source failed
@@ -335,12 +343,14 @@ returns-in-ReadFault g c =
       damage = λ damaged. absurd (cc damaged);
       sound = λ m is damaged. cc damaged;
       same_disk = rw same led.went;
-      disk_cause = λ is. absurd (cc is);
-      stream_cause = λ is. inl (c.in-ReadFault.ensures.reason.source refl);
       short = λ b left is. absurd (cc is);
-      long = λ b left is. absurd (cc is);
-      opened = (λ is. cc is, λ is. cc is);
-      no_other = (λ is. cc is, λ is. cc is);
+      causes = record {
+        disk = λ is. absurd (cc is);
+        stream = λ is. inl (c.in-ReadFault.ensures.reason.source refl);
+        long = λ b left is. absurd (cc is);
+        no_other = (λ is. cc is, λ is. cc is);
+      };
+      began = (λ is. cc is, λ is. cc is);
     }
 
 -- the sink failed on the lines of an event
@@ -388,12 +398,14 @@ returns-in-SinkFault g c =
       damage = λ damaged. absurd (cc damaged);
       sound = λ m is damaged. cc damaged;
       same_disk = rw same led.went;
-      disk_cause = λ is. absurd (cc is);
-      stream_cause = λ is. inr (c.in-SinkFault.ensures.reason.sink refl);
       short = λ b left is. absurd (cc is);
-      long = λ b left is. absurd (cc is);
-      opened = (λ is. cc is, λ is. cc is);
-      no_other = (λ is. cc is, λ is. cc is);
+      causes = record {
+        disk = λ is. absurd (cc is);
+        stream = λ is. inr (c.in-SinkFault.ensures.reason.sink refl);
+        long = λ b left is. absurd (cc is);
+        no_other = (λ is. cc is, λ is. cc is);
+      };
+      began = (λ is. cc is, λ is. cc is);
     }
 
 -- an event halted
@@ -452,10 +464,12 @@ returns-in-Halted g c =
       damage = λ damaged. let what = halt_evidence why s is_so damaged in let found = shows what.0 what.1 in (what.0, found.0, found.1);
       sound = λ m is. halt_not_damaged why s is_so (c.in-Halted.ensures.sound m (stands_at m is));
       same_disk = rw same led.went;
-      disk_cause = λ is. rw same (account.counted (halt_disk why s is_so is));
-      stream_cause = λ is. absurd (other.1 is);
       short = λ b left is. absurd (other.0 is);
-      long = λ b left is. absurd (other.2 is);
-      opened = (other.3, other.4);
-      no_other = (other.5, other.6);
+      causes = record {
+        disk = λ is. rw same (account.counted (halt_disk why s is_so is));
+        stream = λ is. absurd (other.1 is);
+        long = λ b left is. absurd (other.2 is);
+        no_other = (other.3, other.6);
+      };
+      began = (other.4, other.5);
     }

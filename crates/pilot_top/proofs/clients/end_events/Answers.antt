@@ -38,24 +38,30 @@ returns-then-eq-clause-wrote g c =
 -- its end failed
 
 pub returns-in-Some-clause-closed : goal.returns-in-Some-clause-closed
-returns-in-Some-clause-closed g c = λ m is other done. absurd (not_closed c.close-stopped.result.0 c.in-Some.status c.in-Some.is c.close-stopped.ensures.ends done)
+returns-in-Some-clause-closed g c = λ m is other done. absurd (not_closed c.close-stopped.result.0 c.in-Some.status c.in-Some.is c.close-stopped.ensures.stops.ends done)
+
+pub returns-in-Some-clause-disk_fault : goal.returns-in-Some-clause-disk_fault
+returns-in-Some-clause-disk_fault g c = λ failed.
+    let other : c.args.end ≢ end.Halt = search rules in
+    let stopped = c.close-stopped.ensures.stops.disk_fault (c.in-Some.is ∙ ap (λ (s : Status). Some s) failed) in
+    rw (sym c.into_inner-session.ensures) (other, stopped.1, stopped.2)
 
 pub returns-in-Some-clause-damage : goal.returns-in-Some-clause-damage
 returns-in-Some-clause-damage g c = λ damaged.
     let other : c.args.end ≢ end.Halt = search rules in
-    let seen = c.close-stopped.ensures.evidence_seen (c.in-Some.is ∙ ap (λ (s : Status). Some s) damaged) in
-    rw (sym c.into_inner-session.ensures) (other, seen.0, seen.1, seen.2, seen.3)
+    let seen = c.close-stopped.ensures.stops.damage (c.in-Some.is ∙ ap (λ (s : Status). Some s) damaged) in
+    rw (sym c.into_inner-session.ensures) (other, seen.0, seen.1.0, seen.1.1, seen.2)
 
 pub returns-in-Some-clause-sound : goal.returns-in-Some-clause-sound
-returns-in-Some-clause-sound g c = λ m is damaged. c.close-stopped.ensures.sound m (stands_in g _ _ m c.into_inner-session.ensures is) (c.in-Some.is ∙ ap (λ (s : Status). Some s) damaged)
+returns-in-Some-clause-sound g c = λ m is damaged. (c.close-stopped.ensures.stands m (stands_in g _ _ m c.into_inner-session.ensures is)).sound (c.in-Some.is ∙ ap (λ (s : Status). Some s) damaged)
 
 pub returns-in-Some-clause-cost : goal.returns-in-Some-clause-cost
-returns-in-Some-clause-cost g c = λ m is. let most = c.close-stopped.ensures.cost m (stands_in g _ _ m c.into_inner-session.ensures is) in rw (sym c.into_inner-session.ensures) most
+returns-in-Some-clause-cost g c = λ m is. let most = (c.close-stopped.ensures.stands m (stands_in g _ _ m c.into_inner-session.ensures is)).cost in rw (sym c.into_inner-session.ensures) most
 
 -- it was closed
 
 pub returns-in-None-clause-closed : goal.returns-in-None-clause-closed
-returns-in-None-clause-closed g c = λ m is other done. let none : ◌≡◌ {A = Option Status} c.close-stopped.result.0 None = search rules in c.close-stopped.ensures.closed m (stands_in g _ _ m c.into_inner-session.ensures is) none
+returns-in-None-clause-closed g c = λ m is other done. let none : ◌≡◌ {A = Option Status} c.close-stopped.result.0 None = search rules in (c.close-stopped.ensures.stands m (stands_in g _ _ m c.into_inner-session.ensures is)).closed none
 
 pub returns-in-None-clause-part : goal.returns-in-None-clause-part
 returns-in-None-clause-part g c = λ failed.
@@ -73,4 +79,4 @@ returns-in-None-clause-sound g c = λ m is damaged. elim c.put_end-in-None.ensur
 ]
 
 pub returns-in-None-clause-cost : goal.returns-in-None-clause-cost
-returns-in-None-clause-cost g c = λ m is. let most = c.close-stopped.ensures.cost m (stands_in g _ _ m c.into_inner-session.ensures is) in rw (sym c.into_inner-session.ensures) most
+returns-in-None-clause-cost g c = λ m is. let most = (c.close-stopped.ensures.stands m (stands_in g _ _ m c.into_inner-session.ensures is)).cost in rw (sym c.into_inner-session.ensures) most

@@ -1,5 +1,4 @@
 use Rattle.pilot_top.proofs.JudgedRootLemmas.{HasReadRoot, both_opened, first_refused, second_refused}
-use Rattle.pilot_top.proofs.replicating.judge_roots.Given as given
 use Rattle.pilot_top.proofs.replicating.judge_roots.Goals as goal
 
 -- the first root can't be opened

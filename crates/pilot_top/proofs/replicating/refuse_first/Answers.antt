@@ -1,4 +1,4 @@
-use Rattle.std.proofs.Common.{ℕ, List, Option, sym, subst}
+use Rattle.std.proofs.Common.{Option, sym, subst}
 use Rattle.labelled_disk.specs.Calls.{Rose}
 use Rattle.pilot_top.specs.Replicating.{PutsCause}
 use Rattle.pilot_top.specs.declared.last.Cause.{Cause}

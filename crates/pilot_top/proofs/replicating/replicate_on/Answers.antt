@@ -1,8 +1,6 @@
-use Rattle.std.proofs.Common.{◌≡◌, inl, inr, sym, ap, ◌∙◌, subst}
+use Rattle.std.proofs.Common.{inl, inr, sym, ap, ◌∙◌, subst}
 use Rattle.volume_pair.specs.declared.fault.PairStart.TheVariants as unstarted
 use Rattle.labelled_disk.specs.declared.layout.RootFault.TheVariants as fault
-use Rattle.pair_session.specs.Causes.{IfNotStarted}
-use Rattle.pair_session.specs.declared.outcome.Outcome.{Outcome}
 use Rattle.pilot_top.specs.declared.status.Status.{Status}
 use Rattle.pilot_top.specs.Replicating.{Replicated, cause_after}
 use Rattle.pilot_top.specs.World.{world}

@@ -1,4 +1,4 @@
-use Rattle.std.proofs.Common.{◌≡◌, Result, refl, sym, ◌∙◌, subst}
+use Rattle.std.proofs.Common.{Result, refl, ◌∙◌, subst}
 use Rattle.trace_io.specs.PairReading.{pair_reading}
 use Rattle.volume_pair.specs.declared.fault.PairStart.{PairStart}
 use Rattle.pair_session.specs.Owned.{RepliesTo}

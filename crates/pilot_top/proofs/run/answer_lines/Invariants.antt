@@ -1,8 +1,8 @@
-use Rattle.std.proofs.Common.{◌≡◌, ◌⊎◌, ◌-◌, ◌^◌, ◌≤◌, true, Some, None}
+use Rattle.std.proofs.Common.{◌≡◌, ◌⊎◌, ◌-◌, ◌^◌, ◌≤◌, Some, None}
 use Rattle.trace_io.specs.declared.progress.Stop.TheVariants as stop
 use Rattle.swapper_kernel.specs.Goes.{Went}
 use Rattle.pilot_engine.specs.Opening.{IsUnset}
-use Rattle.running_words.specs.Session.{IsOpen}
+use Rattle.pilot_engine.specs.Referring.{TakesCalls}
 use Rattle.running_words.specs.Running.{Runs}
 use Rattle.pilot_top.specs.Parts.{RaisesRoot}
 use Rattle.pilot_top.specs.Sparing.{Hides}
@@ -26,11 +26,9 @@ invariant-turns g l = record {
   goes_on : (l.lines.stopped ≡ None) ⊎ (l.lines.stopped ≡ Some stop.End);
   limit : l.lines.limit ≡ 2 ^ 32;
   bound : l.lines.taken ≤ l.lines.limit;
-  size : (state l.session.core).disk.sectors ≡ (state l.session.core).layout.sectors;
+  ready : TakesCalls l.session;
   layout : (state l.session.core).layout ≡ (state l.fn.session.core).layout;
   goes : GoesOn l.fn.session l.session;
-  opened : IsOpen (state l.session.core).layout l.session.volume;
-  running : l.session.running ≡ true;
   left_open : IsUnset (state l.fn.session.core).disk → IsUnset (state l.session.core).disk;
   source : g.S.Source.faults l.fn.source ≤ g.S.Source.faults l.source;
   sink : g.K.Sink.faults l.fn.sink ≤ g.K.Sink.faults l.sink;

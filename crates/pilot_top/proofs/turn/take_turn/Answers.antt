@@ -1,24 +1,29 @@
-use Rattle.std.proofs.Common.{◌≡◌, false, Some, None, refl, sym, ◌∙◌, subst, arith}
+use Rattle.std.proofs.Common.{◌≡◌, false, Some, None, refl, sym, ◌∙◌, subst}
 use Rattle.labelled_disk.specs.declared.evidence.Halt.{Halt}
+use Rattle.labelled_disk.specs.declared.evidence.Halt.TheVariants as halt
 use Rattle.filer_kernel.specs.Evidence.{ShowsEvidence}
-use Rattle.file_manager.specs.Creating.{IsMonotone, counted, next_id}
+use Rattle.filer_kernel.specs.View.{disk_of}
+use Rattle.fault_core.specs.Core.{state}
+use Rattle.file_manager.specs.Creating.{IsMonotone, counted}
 use Rattle.file_manager.specs.Reasons.{ShowsReason}
-use Rattle.file_manager.specs.RetoldLaws.{on_giving}
+use Rattle.flat_machine.specs.declared.call.Refusal.TheVariants as refusal
+use Rattle.flat_machine.specs.declared.call.Reply.TheVariants as reply
 use Rattle.trace_io.specs.Form.{GivesForm}
 use Rattle.trace_io.specs.Reading.{is_last}
 use Rattle.running_words.specs.Running.{Runs}
 use Rattle.pilot_engine.specs.Reasons.{IsBlameless}
+use Rattle.pilot_top.specs.declared.turn.End.TheVariants as end
+use Rattle.pilot_top.specs.declared.turn.Turn.TheVariants as turn
 use Rattle.pilot_top.proofs.CostLemmas.{bad_costs, call_costs}
 use Rattle.pilot_top.proofs.HiddenLemmas.{hidden_makes, hidden_still}
+use Rattle.pilot_top.proofs.IdleLemmas.{idle_accounts, idle_stays, idle_writes}
 use Rattle.pilot_top.proofs.LineParts.{line_wrote}
 use Rattle.pilot_top.proofs.PartLemmas.{written_none}
-use Rattle.pilot_top.proofs.RootLemmas.{counted_up, raises_call, turns_none}
+use Rattle.pilot_top.proofs.RootLemmas.{counted_up, raises_call}
 use Rattle.pilot_top.proofs.SparedLineLemmas.{bad_done, call_done}
 use Rattle.pilot_top.proofs.StagedLemmas.{line_rest, line_step}
-use Rattle.pilot_top.proofs.TurnLemmas.{goes_on, call_not_end, bad_not_end, same_halt, answers_call, call_wrote, nothing_wrote, answers_bad}
+use Rattle.pilot_top.proofs.TurnLemmas.{answers_bad, answers_call, bad_not_end, call_not_end, call_wrote, goes_on, same_halt}
 use Rattle.pilot_top.proofs.turn.take_turn.Goals as goal
-use Rattle.filer_kernel.specs.View.{disk_of}
-use Rattle.fault_core.specs.Core.{state}
 
 pub step-requires-clause-in_form : goal.step-requires-clause-in_form
 step-requires-clause-in_form g c =
@@ -28,27 +33,7 @@ step-requires-clause-in_form g c =
 pub step-requires-clause-more : goal.step-requires-clause-more
 step-requires-clause-more g c = c.in-None.ensures
 
-pub returns-in-Some-clause-wrote : goal.returns-in-Some-clause-wrote
-returns-in-Some-clause-wrote g c = nothing_wrote _ _
-
-pub returns-in-Bad-clause-wrote : goal.returns-in-Bad-clause-wrote
-returns-in-Bad-clause-wrote g c = nothing_wrote _ _
-
-pub returns-in-End-clause-wrote : goal.returns-in-End-clause-wrote
-returns-in-End-clause-wrote g c = nothing_wrote _ _
-
-pub returns-in-ReadFault-clause-wrote : goal.returns-in-ReadFault-clause-wrote
-returns-in-ReadFault-clause-wrote g c = nothing_wrote _ _
-
-pub returns-in-Long-clause-wrote : goal.returns-in-Long-clause-wrote
-returns-in-Long-clause-wrote g c = nothing_wrote _ _
-
-pub returns-in-Ok-clause-wrote : goal.returns-in-Ok-clause-wrote
-returns-in-Ok-clause-wrote g c = call_wrote c.in-Call.call c.step.ensures.wrote
-
-pub returns-in-Err-clause-wrote : goal.returns-in-Err-clause-wrote
-returns-in-Err-clause-wrote g c = call_wrote c.in-Call.call c.step.ensures.wrote
-
+-- a call was carried out, and has a reply
 pub returns-in-Ok-clause-turns : goal.returns-in-Ok-clause-turns
 returns-in-Ok-clause-turns g c =
     let more : is_last (Some c.in-Call.call) ≡ false = c.in-None.ensures in
@@ -72,6 +57,38 @@ returns-in-Ok-clause-turns g c =
           )),
     )
 
+pub returns-in-Ok-clause-accounts : goal.returns-in-Ok-clause-accounts
+returns-in-Ok-clause-accounts g c = λ o keeps not_older.
+    let e = c.in-Ok.ensures.accounts o keeps not_older in
+    record {
+      keeps_to = λ going. e.keeps_to;
+      reasons = λ why is. absurd (cc is);
+      sees = λ seen going. e.sees seen;
+      right = λ seen why is. absurd (cc is);
+    }
+
+pub returns-in-Ok-clause-stays : goal.returns-in-Ok-clause-stays
+returns-in-Ok-clause-stays g c = record {
+  idle = λ idle. absurd idle;
+  going = λ going. c.in-Ok.ensures.goes_on;
+  open_still = c.step.ensures.stays.open_still;
+  layout = c.step.ensures.stays.layout;
+}
+
+pub returns-in-Ok-clause-writes : goal.returns-in-Ok-clause-writes
+returns-in-Ok-clause-writes g c =
+    let root = c.args.session.now.volume.root in
+    let up : IsMonotone root c.step.new.self.volume.root = (c.step.ensures.stays.monotone, c.step.ensures.stays.serial) in
+    record {
+      wrote = call_wrote c.in-Call.call c.step.ensures.wrote;
+      roots = record {
+        monotone = up;
+        raises = λ goes. raises_call root c.step.new.self.volume.root c.in-Call.call c.requires.ready.opened.valid.serial up c.step.ensures.wrote c.in-Ok.ensures.own.1;
+        counts = raises_call root (counted root) c.in-Call.call c.requires.ready.opened.valid.serial (counted_up root) c.step.ensures.wrote c.step.ensures.own.0;
+      };
+    }
+
+-- the call stopped the session
 pub returns-in-Err-clause-turns : goal.returns-in-Err-clause-turns
 returns-in-Err-clause-turns g c =
     let more : is_last (Some c.in-Call.call) ≡ false = c.in-None.ensures in
@@ -88,9 +105,47 @@ returns-in-Err-clause-turns g c =
           (λ id client other free is. (λ going. absurd going, hidden_makes c.args.session.now c.step.new.self c.in-Call.call id client is c.step.ensures.shown)),
     )
 
-pub returns-in-Err-clause-sound : goal.returns-in-Err-clause-sound
-returns-in-Err-clause-sound g c m halt is same = sym (same_halt c.in-Err.halt halt same) ∙ (c.in-Err.ensures.answers m is).sound
+pub returns-in-Err-clause-stops : goal.returns-in-Err-clause-stops
+returns-in-Err-clause-stops g c =
+    let fails = c.in-Err.ensures.fails in
+    record {
+      sound = λ m why is same. sym (same_halt c.in-Err.halt why same) ∙ (c.in-Err.ensures.answers m is).sound;
+      counted = λ same. fails.counted (same_halt c.in-Err.halt halt.Disk same);
+      evidence_seen = λ why same. subst (λ (h : Halt). ShowsEvidence (state c.step.new.self.core).disk h) (same_halt c.in-Err.halt why same) fails.evidence_seen;
+    }
 
+pub returns-in-Err-clause-accounts : goal.returns-in-Err-clause-accounts
+returns-in-Err-clause-accounts g c = λ o keeps not_older.
+    let e = c.in-Err.ensures.accounts o keeps not_older in
+    let disk = (state c.step.new.self.core).disk in
+    record {
+      keeps_to = λ going. absurd going;
+      reasons = λ why same. subst (λ (h : Halt). ShowsReason o (state c.args.session.now.core).layout disk h) (same_halt c.in-Err.halt why same) e.reasons;
+      sees = λ seen going. absurd going;
+      right = λ seen why same. subst (λ (h : Halt). IsBlameless o disk h) (same_halt c.in-Err.halt why same) (e.sees seen);
+    }
+
+pub returns-in-Err-clause-stays : goal.returns-in-Err-clause-stays
+returns-in-Err-clause-stays g c = record {
+  idle = λ idle. absurd idle;
+  going = λ going. absurd going;
+  open_still = c.step.ensures.stays.open_still;
+  layout = c.step.ensures.stays.layout;
+}
+
+pub returns-in-Err-clause-writes : goal.returns-in-Err-clause-writes
+returns-in-Err-clause-writes g c =
+    let root = c.args.session.now.volume.root in
+    record {
+      wrote = call_wrote c.in-Call.call c.step.ensures.wrote;
+      roots = record {
+        monotone = (c.step.ensures.stays.monotone, c.step.ensures.stays.serial);
+        raises = λ goes. absurd goes;
+        counts = raises_call root (counted root) c.in-Call.call c.requires.ready.opened.valid.serial (counted_up root) c.step.ensures.wrote c.step.ensures.own.0;
+      };
+    }
+
+-- a bad line
 pub returns-in-Bad-clause-turns : goal.returns-in-Bad-clause-turns
 returns-in-Bad-clause-turns g c =
     let begun = goes_on c.args.lines.now.stopped c.next.result _ _ c.requires.stopped c.next.ensures.again (λ same. bad_not_end (sym c.in-Bad.is ∙ same)) in (
@@ -106,87 +161,51 @@ returns-in-Bad-clause-turns g c =
       bad_done c.args.session.now.volume.root (state c.args.session.now.core).disk (state c.args.session.now.core).slots (written_none _ (record { contents = refl; writes = refl })) (λ id is going. is),
     )
 
-pub returns-in-Err-clause-evidence_seen : goal.returns-in-Err-clause-evidence_seen
-returns-in-Err-clause-evidence_seen g c halt same = subst (λ (h : Halt). ShowsEvidence (state c.step.new.self.core).disk h) (same_halt c.in-Err.halt halt same) c.in-Err.ensures.fails.evidence_seen
+pub returns-in-Bad-clause-accounts : goal.returns-in-Bad-clause-accounts
+returns-in-Bad-clause-accounts g c = λ o keeps not_older. idle_accounts c.args.session.now (turn.Replies (reply.Refused refusal.Syntax)) (λ why is. cc is) keeps not_older
 
--- The initial states to which the session keeps, and what it sees of the space tables, and of files.
+pub returns-in-Bad-clause-stays : goal.returns-in-Bad-clause-stays
+returns-in-Bad-clause-stays g c = idle_stays c.args.session.now (turn.Replies (reply.Refused refusal.Syntax)) c.requires.ready
 
-pub returns-in-Ok-clause-keeps_to : goal.returns-in-Ok-clause-keeps_to
-returns-in-Ok-clause-keeps_to g c o keeps not_older going = (c.in-Ok.ensures.accounts o keeps not_older).keeps_to
+pub returns-in-Bad-clause-writes : goal.returns-in-Bad-clause-writes
+returns-in-Bad-clause-writes g c = idle_writes c.args.session.now (turn.Replies (reply.Refused refusal.Syntax))
 
-pub returns-in-Some-clause-keeps_to : goal.returns-in-Some-clause-keeps_to
-returns-in-Some-clause-keeps_to g c o keeps not_older going = on_giving o c.args.session.now.core.filer (next_id c.args.session.now.volume.root) keeps not_older.next
+-- a line that ends the trace
+pub returns-in-Some-clause-accounts : goal.returns-in-Some-clause-accounts
+returns-in-Some-clause-accounts g c = λ o keeps not_older. idle_accounts c.args.session.now (turn.Ends c.in-Some.end) (λ why is. cc is) keeps not_older
 
-pub returns-in-Bad-clause-keeps_to : goal.returns-in-Bad-clause-keeps_to
-returns-in-Bad-clause-keeps_to g c o keeps not_older going = on_giving o c.args.session.now.core.filer (next_id c.args.session.now.volume.root) keeps not_older.next
+pub returns-in-Some-clause-stays : goal.returns-in-Some-clause-stays
+returns-in-Some-clause-stays g c = idle_stays c.args.session.now (turn.Ends c.in-Some.end) c.requires.ready
 
-pub returns-in-End-clause-keeps_to : goal.returns-in-End-clause-keeps_to
-returns-in-End-clause-keeps_to g c o keeps not_older going = on_giving o c.args.session.now.core.filer (next_id c.args.session.now.volume.root) keeps not_older.next
+pub returns-in-Some-clause-writes : goal.returns-in-Some-clause-writes
+returns-in-Some-clause-writes g c = idle_writes c.args.session.now (turn.Ends c.in-Some.end)
 
-pub returns-in-ReadFault-clause-keeps_to : goal.returns-in-ReadFault-clause-keeps_to
-returns-in-ReadFault-clause-keeps_to g c o keeps not_older going = on_giving o c.args.session.now.core.filer (next_id c.args.session.now.volume.root) keeps not_older.next
+-- the end of the source
+pub returns-in-End-clause-accounts : goal.returns-in-End-clause-accounts
+returns-in-End-clause-accounts g c = λ o keeps not_older. idle_accounts c.args.session.now (turn.Ends end.Trace) (λ why is. cc is) keeps not_older
 
-pub returns-in-Long-clause-keeps_to : goal.returns-in-Long-clause-keeps_to
-returns-in-Long-clause-keeps_to g c o keeps not_older going = on_giving o c.args.session.now.core.filer (next_id c.args.session.now.volume.root) keeps not_older.next
+pub returns-in-End-clause-stays : goal.returns-in-End-clause-stays
+returns-in-End-clause-stays g c = idle_stays c.args.session.now (turn.Ends end.Trace) c.requires.ready
 
-pub returns-in-Err-clause-reasons : goal.returns-in-Err-clause-reasons
-returns-in-Err-clause-reasons g c o keeps not_older halt same =
-    subst (λ (h : Halt). ShowsReason o (state c.args.session.now.core).layout (state c.step.new.self.core).disk h) (same_halt c.in-Err.halt halt same) ((c.in-Err.ensures.accounts o keeps not_older).reasons)
+pub returns-in-End-clause-writes : goal.returns-in-End-clause-writes
+returns-in-End-clause-writes g c = idle_writes c.args.session.now (turn.Ends end.Trace)
 
-pub returns-in-Ok-clause-sees : goal.returns-in-Ok-clause-sees
-returns-in-Ok-clause-sees g c o keeps not_older seen going = (c.in-Ok.ensures.accounts o keeps not_older).sees seen
+-- the source failed
+pub returns-in-ReadFault-clause-accounts : goal.returns-in-ReadFault-clause-accounts
+returns-in-ReadFault-clause-accounts g c = λ o keeps not_older. idle_accounts c.args.session.now turn.ReadFault (λ why is. cc is) keeps not_older
 
-pub returns-in-Some-clause-sees : goal.returns-in-Some-clause-sees
-returns-in-Some-clause-sees g c o keeps not_older seen going = seen
+pub returns-in-ReadFault-clause-stays : goal.returns-in-ReadFault-clause-stays
+returns-in-ReadFault-clause-stays g c = idle_stays c.args.session.now turn.ReadFault c.requires.ready
 
-pub returns-in-Bad-clause-sees : goal.returns-in-Bad-clause-sees
-returns-in-Bad-clause-sees g c o keeps not_older seen going = seen
+pub returns-in-ReadFault-clause-writes : goal.returns-in-ReadFault-clause-writes
+returns-in-ReadFault-clause-writes g c = idle_writes c.args.session.now turn.ReadFault
 
-pub returns-in-End-clause-sees : goal.returns-in-End-clause-sees
-returns-in-End-clause-sees g c o keeps not_older seen going = seen
+-- as many bytes as the limit were taken
+pub returns-in-Long-clause-accounts : goal.returns-in-Long-clause-accounts
+returns-in-Long-clause-accounts g c = λ o keeps not_older. idle_accounts c.args.session.now turn.Long (λ why is. cc is) keeps not_older
 
-pub returns-in-ReadFault-clause-sees : goal.returns-in-ReadFault-clause-sees
-returns-in-ReadFault-clause-sees g c o keeps not_older seen going = seen
+pub returns-in-Long-clause-stays : goal.returns-in-Long-clause-stays
+returns-in-Long-clause-stays g c = idle_stays c.args.session.now turn.Long c.requires.ready
 
-pub returns-in-Long-clause-sees : goal.returns-in-Long-clause-sees
-returns-in-Long-clause-sees g c o keeps not_older seen going = seen
-
-pub returns-in-Err-clause-right : goal.returns-in-Err-clause-right
-returns-in-Err-clause-right g c o keeps not_older seen halt same =
-    subst (λ (h : Halt). IsBlameless o (state c.step.new.self.core).disk h) (same_halt c.in-Err.halt halt same) ((c.in-Err.ensures.accounts o keeps not_older).sees seen)
-
--- ---- The roots that were written.
-
-pub returns-in-Ok-clause-roots : goal.returns-in-Ok-clause-roots
-returns-in-Ok-clause-roots g c =
-    let root = c.args.session.now.volume.root in
-    let up : IsMonotone root c.step.new.self.volume.root = (c.step.ensures.stays.monotone, c.step.ensures.stays.serial) in
-    record {
-      monotone = up;
-      raises = λ goes. raises_call root c.step.new.self.volume.root c.in-Call.call c.requires.opened.valid.serial up c.step.ensures.wrote c.in-Ok.ensures.own.1;
-      counts = raises_call root (counted root) c.in-Call.call c.requires.opened.valid.serial (counted_up root) c.step.ensures.wrote c.step.ensures.own.0;
-    }
-
-pub returns-in-Err-clause-roots : goal.returns-in-Err-clause-roots
-returns-in-Err-clause-roots g c =
-    let root = c.args.session.now.volume.root in
-    record {
-      monotone = (c.step.ensures.stays.monotone, c.step.ensures.stays.serial);
-      raises = λ goes. absurd goes;
-      counts = raises_call root (counted root) c.in-Call.call c.requires.opened.valid.serial (counted_up root) c.step.ensures.wrote c.step.ensures.own.0;
-    }
-
-pub returns-in-Some-clause-roots : goal.returns-in-Some-clause-roots
-returns-in-Some-clause-roots g c = turns_none c.args.session.now.volume.root (state c.args.session.now.core).disk
-
-pub returns-in-Bad-clause-roots : goal.returns-in-Bad-clause-roots
-returns-in-Bad-clause-roots g c = turns_none c.args.session.now.volume.root (state c.args.session.now.core).disk
-
-pub returns-in-End-clause-roots : goal.returns-in-End-clause-roots
-returns-in-End-clause-roots g c = turns_none c.args.session.now.volume.root (state c.args.session.now.core).disk
-
-pub returns-in-ReadFault-clause-roots : goal.returns-in-ReadFault-clause-roots
-returns-in-ReadFault-clause-roots g c = turns_none c.args.session.now.volume.root (state c.args.session.now.core).disk
-
-pub returns-in-Long-clause-roots : goal.returns-in-Long-clause-roots
-returns-in-Long-clause-roots g c = turns_none c.args.session.now.volume.root (state c.args.session.now.core).disk
+pub returns-in-Long-clause-writes : goal.returns-in-Long-clause-writes
+returns-in-Long-clause-writes g c = idle_writes c.args.session.now turn.Long
