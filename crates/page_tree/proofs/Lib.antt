@@ -45,6 +45,7 @@ pub mod WayLaws
 pub mod RebalancingLaws
 pub mod Listing
 pub mod WalkLaws
+mod Calls
 mod Threads
 mod WalkedLaws
 mod PlacedLaws

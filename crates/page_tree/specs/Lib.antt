@@ -2,6 +2,8 @@ pub mod Keys
 pub mod Page
 pub mod Tree
 pub mod Answer
+pub mod Bounds
+pub mod Calls
 pub mod Change
 pub mod Put
 pub mod Carry

@@ -1,10 +1,12 @@
 // The record after a key.
-ghost use Rattle.std.specs.Prelude.{◌≡◌, ℕ, ◌+◌, ◌*◌, ◌/◌, ◌^◌, ◌<◌, ◌≤◌, List, IfOk, IfErr, IfSome, MatchResult, is_some};
-ghost use Rattle.page_tree.specs.Page.{IsWidths, leaf_room, record_at};
+ghost use Rattle.std.specs.Prelude.{◌≡◌, ℕ, ◌*◌, ◌/◌, ◌<◌, ◌≤◌, List, IfOk, IfErr, IfSome, MatchResult, is_some};
+ghost use Rattle.page_tree.specs.Page.{leaf_room, record_at};
 ghost use Rattle.page_tree.specs.Tree.{IsTree};
-ghost use Rattle.page_tree.specs.Answer.{IsNextEntry, FromMemory, IfMemNotFull};
+ghost use Rattle.page_tree.specs.Answer.{IsNextEntry, FromMemory};
 ghost use Rattle.page_tree.specs.Broken.{Breaks, IfMalformed};
 ghost use Rattle.page_tree.specs.Reveals.{StandsIn};
+ghost use Rattle.page_tree.specs.Bounds.{IsRoomy};
+ghost use Rattle.page_tree.specs.Calls.{Looks};
 
 use crate::error::TreeError;
 use crate::look::{Path, descend, read_numbers};
@@ -28,20 +30,14 @@ pub fn look_after<M: FlatMem, const E: usize, const K: usize>(
     key: &[u8; K],
     into: &mut [u8; E],
 ) -> Result<Option<u32>, TreeError<M::Error>>
-    requires widths { IsWidths E K }
-    requires small { M.size mem.old ≤ 2 ^ 27 }
-    requires some_pages { 9 * 512 ≤ M.size mem.old }
+    requires sized { IsRoomy E K (M.size mem.old) }
     ensures answer { (b : List ℕ) → M.reveals mem.old b → (records : List (List ℕ))
         → IsTree E K (M.size mem.old / 512) b records
         → MatchResult result (λ found. IsNextEntry K records key.now into.new (is_some found)) FromMemory }
     ensures home { (b : List ℕ) → M.reveals mem.old b → IfOk result (λ found. IfSome found (StandsIn E K b into.new)) }
     ensures broken { (b : List ℕ) → M.reveals mem.old b
         → IfErr result (IfMalformed (Breaks E K (M.size mem.old / 512) b)) }
-    ensures unchanged { (b : List ℕ) → M.reveals mem.old b → M.reveals mem.new b }
-    ensures kept { M.beside mem.old mem.new }
-    ensures looked { M.only_reads mem.old mem.new }
-    ensures cause { IfErr result (IfMemNotFull (M.accounted mem.old mem.new)) }
-    ensures cost { M.spent mem.new ≤ M.spent mem.old + 18 * M.cost }
+    ensures looks { Looks M.FlatMem (18 * M.cost) mem.old mem.new result }
 {
     let mut page = [0; PAGE_BYTES];
     let mut path = Path {

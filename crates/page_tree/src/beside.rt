@@ -1,18 +1,30 @@
 // A page that is underfull, the page above it and its neighbour.
-ghost use Rattle.std.specs.Prelude.{◌≡◌, ◌≢◌, ℕ, ◌+◌, ◌*◌, ◌/◌, ◌^◌, ◌<◌, ◌≤◌, List, get_or, IfOk, IfErr, MatchResult};
+ghost use Rattle.std.specs.Prelude.{◌≡◌, ℕ, ◌+◌, ◌*◌, ◌/◌, ◌<◌, ◌≤◌, List, get_or, IfOk, IfErr, MatchResult};
 ghost use Rattle.page_tree.specs.Keys.{Item};
-ghost use Rattle.page_tree.specs.Page.{IsWidths, page_at, filled, leaf_room, key_room, link_at, IsPageOf};
-ghost use Rattle.page_tree.specs.Answer.{FromMemory, IfMemNotFull};
+ghost use Rattle.page_tree.specs.Page.{page_at, filled, key_room, link_at, IsPageOf};
+ghost use Rattle.page_tree.specs.Answer.{FromMemory};
 ghost use Rattle.page_tree.specs.Neighbours.{IsUnderfull};
 ghost use Rattle.page_tree.specs.Underfull.{IsPending, IsSecond, NeedsKeyUpdate};
 ghost use Rattle.page_tree.specs.Broken.{IsInnerForm, Meets, Breaks, IfMalformed};
 ghost use Rattle.page_tree.specs.Rebalancing.{IsLike, IsRebalancing, IsBesideOf, AreNotAbove};
+ghost use Rattle.page_tree.specs.Bounds.{IsSized, IsKeyed, IsBelowRoot, HasChild};
+ghost use Rattle.page_tree.specs.Calls.{Looks, Works, KeepsTree, IsPageAbove, IsChildPage};
 
 use crate::error::TreeError;
 use crate::look::{Header, Path};
 use crate::pages::{filled_of, key_of, link_of, load};
-use crate::redistribute::redistribute_page;
+use crate::redistribute::{Neighbours, redistribute_page};
 use flat_mem::{FlatMem, PAGE_BYTES, Page};
+
+/// Page `at` of level `level`, which is child `index` of page `up`. Of it and its neighbour, the second is child `slot`.
+#[derive(Clone, Copy, Drop)]
+pub struct Child {
+    pub level: u32,
+    pub at: u32,
+    pub index: usize,
+    pub slot: usize,
+    pub up: u32,
+}
 
 /// Reads the page above level `level` on the path.
 pub fn load_above<M: FlatMem, const K: usize>(
@@ -22,20 +34,12 @@ pub fn load_above<M: FlatMem, const K: usize>(
     levels: u32,
     above: &mut Page,
 ) -> Result<u32, TreeError<M::Error>>
-    requires some_key { 1 ≤ K }
-    requires key_most { K ≤ 12 }
-    requires small { M.size mem.old ≤ 2 ^ 27 }
-    requires some { 1 ≤ level }
-    requires under { level < levels }
-    requires few { levels ≤ 6 }
+    requires sized { IsKeyed K (M.size mem.old) }
+    requires below { IsBelowRoot levels level }
     requires inside { get_or path.now.pages (level + 1) 0 < M.size mem.old / 512 }
     ensures read { (b : List ℕ) → M.reveals mem.old b → IfOk result (λ up. above.new ≡ page_at b up) }
-    ensures there { IfOk result (λ up. (up ≡ get_or path.now.pages (level + 1) 0) × (up < M.size mem.old / 512)) }
-    ensures form { IfOk result
-        (λ _.
-        (1 ≤ filled above.new) × (filled above.new ≤ key_room K)
-        × (get_or path.now.index (level + 1) 0 ≤ filled above.new)) }
-    ensures more { IfOk result (λ _. level + 1 < levels → 2 ≤ filled above.new) }
+    ensures above { IfOk result
+        (λ up. IsPageAbove K (M.size mem.old / 512) levels level path.now.pages path.now.index above.new up) }
     ensures well { (e : ℕ) (b : List ℕ) → M.reveals mem.old b
         → (records : List (List ℕ)) (at : ℕ) (page : List ℕ) (root first top : ℕ)
         → IsPending e K (M.size mem.old / 512) b records levels level path.now.pages path.now.index at page root first
@@ -48,11 +52,7 @@ pub fn load_above<M: FlatMem, const K: usize>(
         → IsRebalancing K b c levels level root path.now.pages path.now.index
         → IfErr result (IfMalformed (Breaks e K (M.size mem.old / 512) b)) }
     ensures named { 1 ≤ get_or path.now.pages (level + 1) 0 → IfErr result (IfMalformed (λ page. 1 ≤ page)) }
-    ensures unchanged { (b : List ℕ) → M.reveals mem.old b → M.reveals mem.new b }
-    ensures kept { M.beside mem.old mem.new }
-    ensures looked { M.only_reads mem.old mem.new }
-    ensures cause { IfErr result (IfMemNotFull (M.accounted mem.old mem.new)) }
-    ensures cost { M.spent mem.new ≤ M.spent mem.old + M.cost }
+    ensures looks { Looks M.FlatMem M.cost mem.old mem.new result }
 {
     let up = path.pages[level as usize + 1];
     match load(mem, up, above) {
@@ -79,15 +79,11 @@ fn load_beside<M: FlatMem, const E: usize, const K: usize>(
     level: u32,
     page: &mut Page,
 ) -> Result<u32, TreeError<M::Error>>
-    requires widths { IsWidths E K }
-    requires small { M.size mem.old ≤ 2 ^ 27 }
+    requires sized { IsSized E K (M.size mem.old) }
     requires some { 1 ≤ level }
     requires child { index ≤ key_room K }
     ensures read { (b : List ℕ) → M.reveals mem.old b → IfOk result (λ at. page.new ≡ page_at b at) }
-    ensures there { IfOk result (λ at. (at ≡ link_at K above.now index) × (at < M.size mem.old / 512)) }
-    ensures after { IfOk result (λ at. 1 ≤ at) }
-    ensures leaf { IfOk result (λ _. level ≡ 1 → filled page.new ≤ leaf_room E) }
-    ensures inner { IfOk result (λ _. level ≢ 1 → filled page.new ≤ key_room K) }
+    ensures child { IfOk result (λ at. IsChildPage E K (M.size mem.old / 512) level above.now index page.new at) }
     ensures well { (b : List ℕ) → M.reveals mem.old b → (xs : List Item) → 1 ≤ link_at K above.now index
         → link_at K above.now index < M.size mem.old / 512
         → IsPageOf E K level (page_at b (link_at K above.now index)) xs → IfErr result FromMemory }
@@ -96,11 +92,7 @@ fn load_beside<M: FlatMem, const E: usize, const K: usize>(
         → IsLike K above.now (page_at b up) → index ≤ filled above.now
         → IfErr result (IfMalformed (Breaks E K (M.size mem.old / 512) b)) }
     ensures named { 1 ≤ up → IfErr result (IfMalformed (λ page. 1 ≤ page)) }
-    ensures unchanged { (b : List ℕ) → M.reveals mem.old b → M.reveals mem.new b }
-    ensures kept { M.beside mem.old mem.new }
-    ensures looked { M.only_reads mem.old mem.new }
-    ensures cause { IfErr result (IfMemNotFull (M.accounted mem.old mem.new)) }
-    ensures cost { M.spent mem.new ≤ M.spent mem.old + M.cost }
+    ensures looks { Looks M.FlatMem M.cost mem.old mem.new result }
 {
     let pages = (mem.len() / PAGE_BYTES as u64) as u32;
     let at = link_of::<K>(above, index);
@@ -121,71 +113,68 @@ fn load_beside<M: FlatMem, const E: usize, const K: usize>(
     Ok(at)
 }
 
-/// Redistributes the page of level `level` with a neighbour under `above`, and says whether the two are one page now.
-/// Of the two, the second is child `slot` of `above`, and `key` becomes its first key.
+/// Redistributes the child with a neighbour under `above`, and says whether the two are one page now.
+/// `key` becomes the first key of the second.
 pub fn rebalance_beside<M: FlatMem, const E: usize, const K: usize>(
     mem: &mut M,
     header: &mut Header,
-    level: u32,
-    index: usize,
-    slot: usize,
-    at: u32,
+    child: Child,
     page: &mut Page,
-    up: u32,
     above: &Page,
-    other: &mut Page,
     key: &mut [u8; K],
 ) -> Result<bool, TreeError<M::Error>>
-    requires widths { IsWidths E K }
-    requires small { M.size mem.old ≤ 2 ^ 27 }
-    requires some { 1 ≤ level }
-    requires underfull { IsUnderfull E K level (filled page.old) }
-    requires second { IsSecond index slot }
-    requires child { index ≤ filled above.now }
-    requires children { 1 ≤ filled above.now }
-    requires most { filled above.now ≤ key_room K }
-    requires inside { at < M.size mem.old / 512 }
+    requires sized { IsSized E K (M.size mem.old) }
+    requires some { 1 ≤ child.level }
+    requires underfull { IsUnderfull E K child.level (filled page.old) }
+    requires second { IsSecond child.index child.slot }
+    requires child { HasChild K above.now child.index }
+    requires inside { child.at < M.size mem.old / 512 }
     ensures redistributed { (b : List ℕ) → M.reveals mem.old b → (records : List (List ℕ)) (paths indexes : List ℕ)
-        → IsPending E K (M.size mem.old / 512) b records header.old.levels level paths indexes at page.old
+        → IsPending E K (M.size mem.old / 512) b records header.old.levels child.level paths indexes child.at page.old
         header.old.root header.old.free header.old.top
-        → level < header.old.levels → index ≡ get_or indexes (level + 1) 0
-        → above.now ≡ page_at b (get_or paths (level + 1) 0)
+        → child.level < header.old.levels → child.index ≡ get_or indexes (child.level + 1) 0
+        → above.now ≡ page_at b (get_or paths (child.level + 1) 0)
         → MatchResult result
-        (NeedsKeyUpdate E K (M.size mem.old / 512) (M.reveals mem.new) b records header.old.levels level paths indexes
-        above.now slot key.new header.old.root header.new.free header.old.top)
+        (NeedsKeyUpdate E K (M.size mem.old / 512) (M.reveals mem.new) b records header.old.levels child.level paths
+        indexes above.now child.slot key.new header.old.root header.new.free header.old.top)
         FromMemory }
     ensures on { (root beside : ℕ) (paths indexes b c : List ℕ) → M.reveals mem.old c
-        → IsRebalancing K b c header.old.levels level root paths indexes → level < header.old.levels
-        → up ≡ get_or paths (level + 1) 0 → IsLike K above.now (page_at b up) → Meets K b level at
-        → IsBesideOf index beside → AreNotAbove paths level header.old.levels at (link_at K above.now beside)
+        → IsRebalancing K b c header.old.levels child.level root paths indexes → child.level < header.old.levels
+        → child.up ≡ get_or paths (child.level + 1) 0 → IsLike K above.now (page_at b child.up)
+        → Meets K b child.level child.at → IsBesideOf child.index beside
+        → AreNotAbove paths child.level header.old.levels child.at (link_at K above.now beside)
         → MatchResult result
-        (λ _. (d : List ℕ) × M.reveals mem.new d × IsRebalancing K b d header.old.levels (level + 1) root paths indexes)
+        (λ _.
+        (d : List ℕ) × M.reveals mem.new d × IsRebalancing K b d header.old.levels (child.level + 1) root paths indexes)
         (IfMalformed (Breaks E K (M.size mem.old / 512) b)) }
-    ensures named { 1 ≤ up → IfErr result (IfMalformed (λ page. 1 ≤ page)) }
-    ensures count { header.new.count ≡ header.old.count }
-    ensures root { header.new.root ≡ header.old.root }
+    ensures named { 1 ≤ child.up → IfErr result (IfMalformed (λ page. 1 ≤ page)) }
+    ensures keeps { KeepsTree header.old header.new }
     ensures top { header.new.top ≡ header.old.top }
-    ensures levels { header.new.levels ≡ header.old.levels }
-    ensures kept { M.beside mem.old mem.new }
-    ensures cause { IfErr result (IfMemNotFull (M.accounted mem.old mem.new)) }
-    ensures cost { M.spent mem.new ≤ M.spent mem.old + 3 * M.cost }
+    ensures works { Works M.FlatMem (3 * M.cost) mem.old mem.new result }
 {
-    key_of(above, slot - 1, key);
-    if index == 0 {
-        let right_at = match load_beside::<M, E, K>(mem, above, up, 1, level, other) {
-            Ok(right_at) => right_at,
+    let mut other = [0; PAGE_BYTES];
+    let level = child.level;
+    key_of(above, child.slot - 1, key);
+    if child.index == 0 {
+        let right = match load_beside::<M, E, K>(mem, above, child.up, 1, level, &mut other) {
+            Ok(right) => right,
             Err(error) => return Err(error),
         };
-        match redistribute_page::<M, E, K>(mem, header, level, at, page, right_at, other, key) {
+        let left = child.at;
+        let pair = Neighbours { level, left, right };
+        match redistribute_page::<M, E, K>(mem, header, pair, page, &mut other, key) {
             Ok(joined) => return Ok(joined),
             Err(error) => return Err(error),
         }
     }
-    let left_at = match load_beside::<M, E, K>(mem, above, up, index - 1, level, other) {
-        Ok(left_at) => left_at,
+    let index = child.index - 1;
+    let left = match load_beside::<M, E, K>(mem, above, child.up, index, level, &mut other) {
+        Ok(left) => left,
         Err(error) => return Err(error),
     };
-    match redistribute_page::<M, E, K>(mem, header, level, left_at, other, at, page, key) {
+    let right = child.at;
+    let pair = Neighbours { level, left, right };
+    match redistribute_page::<M, E, K>(mem, header, pair, &mut other, page, key) {
         Ok(joined) => Ok(joined),
         Err(error) => Err(error),
     }

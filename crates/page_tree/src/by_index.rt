@@ -1,17 +1,19 @@
 // The record of an index.
-ghost use Rattle.std.specs.Prelude.{◌≡◌, ℕ, ◌+◌, ◌*◌, ◌/◌, ◌^◌, ◌<◌, ◌≤◌, ◌⊎◌, List, [], length, get_or, IfOk, IfErr, MatchResult};
+ghost use Rattle.std.specs.Prelude.{◌≡◌, ℕ, ◌+◌, ◌*◌, ◌/◌, ◌<◌, ◌≤◌, ◌⊎◌, List, [], length, get_or, IfOk, IfErr, MatchResult};
 ghost use Rattle.flat_mem.specs.Order.{entry_at};
-ghost use Rattle.page_tree.specs.Page.{IsWidths, page_at, filled, count_in};
+ghost use Rattle.page_tree.specs.Page.{page_at, filled, count_in};
 ghost use Rattle.page_tree.specs.Tree.{Node, IsRooted, IsTree};
 ghost use Rattle.page_tree.specs.Path.{IsLed};
 ghost use Rattle.page_tree.specs.SectorState.{IsSectorState};
 ghost use Rattle.page_tree.specs.Climb.{IsHead};
-ghost use Rattle.page_tree.specs.Answer.{FromMemory, IfMemNotFull, IsPast, CanBegin};
+ghost use Rattle.page_tree.specs.Answer.{FromMemory, IsPast};
 ghost use Rattle.page_tree.specs.Broken.{IsLeafForm, Meets, Breaks, IfMalformed};
 ghost use Rattle.page_tree.specs.Met.{IsMetPath};
 ghost use Rattle.page_tree.specs.Walked.{IsWalked};
 ghost use Rattle.page_tree.specs.Placed.{IsPlaced};
 ghost use Rattle.page_tree.specs.Indexed.{IsIndexed, IsNth, MissesNth};
+ghost use Rattle.page_tree.specs.Bounds.{IsSized, IsRoomy, IsOnLevel, HasRoot};
+ghost use Rattle.page_tree.specs.Calls.{Looks};
 
 use crate::after::record_of;
 use crate::error::TreeError;
@@ -35,11 +37,8 @@ pub fn first_leaf<M: FlatMem, const E: usize, const K: usize>(
     path: &mut Path,
     page: &mut Page,
 ) -> Result<u32, TreeError<M::Error>>
-    requires widths { IsWidths E K }
-    requires small { M.size mem.old ≤ 2 ^ 27 }
-    requires some { 1 ≤ levels }
-    requires most { levels ≤ 6 }
-    requires inside { root < M.size mem.old / 512 }
+    requires sized { IsSized E K (M.size mem.old) }
+    requires place { IsOnLevel (M.size mem.old / 512) levels root }
     ensures leaf { (b : List ℕ) → M.reveals mem.old b → (records : List (List ℕ)) (nodes : ℕ → List Node)
         → IsRooted E K (M.size mem.old / 512) b records levels root nodes
         → MatchResult result (λ leaf. IsLed b levels nodes page.new path.new.pages path.new.index leaf 0) FromMemory }
@@ -51,11 +50,7 @@ pub fn first_leaf<M: FlatMem, const E: usize, const K: usize>(
     ensures inside { IfOk result (λ leaf. leaf < M.size mem.old / 512) }
     ensures form { IfOk result (λ _. IsLeafForm E page.new) }
     ensures read { (b : List ℕ) → M.reveals mem.old b → IfOk result (λ leaf. page.new ≡ page_at b leaf) }
-    ensures unchanged { (b : List ℕ) → M.reveals mem.old b → M.reveals mem.new b }
-    ensures kept { M.beside mem.old mem.new }
-    ensures looked { M.only_reads mem.old mem.new }
-    ensures cause { IfErr result (IfMemNotFull (M.accounted mem.old mem.new)) }
-    ensures cost { M.spent mem.new ≤ M.spent mem.old + 6 * M.cost }
+    ensures looks { Looks M.FlatMem (6 * M.cost) mem.old mem.new result }
 {
     match go_down::<M, E, K>(mem, levels, root, 0, path, page) {
         Ok(leaf) => Ok(leaf),
@@ -71,10 +66,8 @@ pub fn find_place<M: FlatMem, const E: usize, const K: usize>(
     path: &mut Path,
     page: &mut Page,
 ) -> Result<Place, TreeError<M::Error>>
-    requires widths { IsWidths E K }
-    requires small { M.size mem.old ≤ 2 ^ 27 }
-    requires some { 1 ≤ header.levels }
-    requires begins { CanBegin (M.size mem.old / 512) header.levels header.root }
+    requires sized { IsSized E K (M.size mem.old) }
+    requires rooted { HasRoot (M.size mem.old / 512) header.levels header.root }
     ensures placed { (b : List ℕ) → M.reveals mem.old b
         → (records : List (List ℕ))
         (here : IsSectorState E K (M.size mem.old / 512) b records header.levels header.root header.free header.top)
@@ -100,11 +93,7 @@ pub fn find_place<M: FlatMem, const E: usize, const K: usize>(
         (λ at. Meets K b 1 at.page × IsMetPath K b header.levels 1 header.root path.new.pages path.new.index) }
     ensures form { IfOk result (λ _. IsLeafForm E page.new) }
     ensures read { (b : List ℕ) → M.reveals mem.old b → IfOk result (λ at. page.new ≡ page_at b at.page) }
-    ensures unchanged { (b : List ℕ) → M.reveals mem.old b → M.reveals mem.new b }
-    ensures kept { M.beside mem.old mem.new }
-    ensures looked { M.only_reads mem.old mem.new }
-    ensures cause { IfErr result (IfMemNotFull (M.accounted mem.old mem.new)) }
-    ensures cost { M.spent mem.new ≤ M.spent mem.old + (6 + 11 * (M.size mem.old / 512)) * M.cost }
+    ensures looks { Looks M.FlatMem ((6 + 11 * (M.size mem.old / 512)) * M.cost) mem.old mem.new result }
 {
     let pages = (mem.len() / PAGE_BYTES as u64) as u32;
     let mut at = match first_leaf::<M, E, K>(mem, header.root, header.levels, path, page) {
@@ -141,9 +130,7 @@ pub fn nth<M: FlatMem, const E: usize, const K: usize>(
     index: u32,
     into: &mut [u8; E],
 ) -> Result<(), TreeError<M::Error>>
-    requires widths { IsWidths E K }
-    requires small { M.size mem.old ≤ 2 ^ 27 }
-    requires some_pages { 9 * 512 ≤ M.size mem.old }
+    requires sized { IsRoomy E K (M.size mem.old) }
     ensures answer { (b : List ℕ) → M.reveals mem.old b → (records : List (List ℕ))
         → IsTree E K (M.size mem.old / 512) b records → index < length records
         → MatchResult result (λ _. into.new ≡ entry_at records index) FromMemory }
@@ -158,11 +145,7 @@ pub fn nth<M: FlatMem, const E: usize, const K: usize>(
         (λ page. Breaks E K (M.size mem.old / 512) b page ⊎ ((page ≡ 0) × (count_in (page_at b 0) ≤ index)))) }
     ensures missing { (b : List ℕ) → M.reveals mem.old b
         → IfErr result (IfMalformed (λ page. page ≡ 0 → MissesNth E K (M.size mem.old / 512) b index)) }
-    ensures unchanged { (b : List ℕ) → M.reveals mem.old b → M.reveals mem.new b }
-    ensures kept { M.beside mem.old mem.new }
-    ensures looked { M.only_reads mem.old mem.new }
-    ensures cause { IfErr result (IfMemNotFull (M.accounted mem.old mem.new)) }
-    ensures cost { M.spent mem.new ≤ M.spent mem.old + 12 * (M.size mem.old / 512) * M.cost }
+    ensures looks { Looks M.FlatMem (12 * (M.size mem.old / 512) * M.cost) mem.old mem.new result }
 {
     let mut page = [0; PAGE_BYTES];
     let header = match read_header::<M, E, K>(mem, &mut page) {

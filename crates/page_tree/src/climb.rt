@@ -1,6 +1,6 @@
 // An insertion on its way up.
-ghost use Rattle.std.specs.Prelude.{◌≡◌, ◌≢◌, ℕ, ◌+◌, ◌-◌, ◌*◌, ◌/◌, ◌^◌, ◌<◌, ◌≤◌, List, length, get_or, true, false, IfOk, IfErr, MatchResult};
-ghost use Rattle.page_tree.specs.Answer.{FromMemory, IfMemNotFull};
+ghost use Rattle.std.specs.Prelude.{◌≡◌, ◌≢◌, ℕ, ◌+◌, ◌*◌, ◌/◌, ◌^◌, ◌<◌, ◌≤◌, List, length, get_or, false, IfOk, IfErr, MatchResult};
+ghost use Rattle.page_tree.specs.Answer.{FromMemory};
 ghost use Rattle.page_tree.specs.Open.{CanTake};
 ghost use Rattle.page_tree.specs.Climb.{IsClimb, IsStep, IsStoredAs, RevealsClosed};
 ghost use Rattle.page_tree.specs.Page.{IsWidths, kind_of};
@@ -8,6 +8,8 @@ ghost use Rattle.page_tree.specs.Broken.{Meets, StopsInsertion, IfMalformed};
 ghost use Rattle.page_tree.specs.Met.{IsMetPath};
 ghost use Rattle.page_tree.specs.Way.{IsUnderWay, WasFull, GoesOn};
 ghost use Rattle.page_tree.specs.Put.{capacity_of};
+ghost use Rattle.page_tree.specs.Bounds.{HasRoom, IsBelowRoot, IsWay};
+ghost use Rattle.page_tree.specs.Calls.{Works, KeepsTree};
 
 use crate::error::TreeError;
 use crate::look::{Header, Path};
@@ -15,6 +17,13 @@ use crate::pages::{filled_of, load, put_child, store};
 use crate::split::{make_root, split_inner};
 use crate::take::take_page;
 use flat_mem::{FlatMem, PAGE_BYTES, Page};
+
+/// The second half of a page that was split, which has still to be listed above: its first key and its page.
+#[derive(Drop)]
+pub struct NewHalf<const K: usize> {
+    pub key: [u8; K],
+    pub page: u32,
+}
 
 /// Writes the halves of a page: the first in its place, the second into a page that is taken.
 pub fn store_halves<M: FlatMem>(
@@ -41,12 +50,8 @@ pub fn store_halves<M: FlatMem>(
         (λ _. (d : List ℕ) × M.reveals mem.new d × IsUnderWay k b d (level + 1) (t + 1) header.new.free header.new.top)
         (IfMalformed (StopsInsertion e k (M.size mem.old / 512) b)) }
     ensures free { IfOk result (λ _. header.new.free < M.size mem.old / 512) }
-    ensures count { header.new.count ≡ header.old.count }
-    ensures root { header.new.root ≡ header.old.root }
-    ensures levels { header.new.levels ≡ header.old.levels }
-    ensures kept { M.beside mem.old mem.new }
-    ensures cause { IfErr result (IfMemNotFull (M.accounted mem.old mem.new)) }
-    ensures cost { M.spent mem.new ≤ M.spent mem.old + 3 * M.cost }
+    ensures keeps { KeepsTree header.old header.new }
+    ensures works { Works M.FlatMem (3 * M.cost) mem.old mem.new result }
 {
     let page = match take_page(mem, header) {
         Ok(page) => page,
@@ -68,24 +73,18 @@ pub fn put_up<M: FlatMem, const K: usize>(
     header: &mut Header,
     path: &Path,
     level: u32,
-    key: &mut [u8; K],
-    link: &mut u32,
+    half: &mut NewHalf<K>,
 ) -> Result<bool, TreeError<M::Error>>
-    requires some_key { 1 ≤ K }
-    requires key_most { K ≤ 12 }
-    requires small { M.size mem.old ≤ 2 ^ 27 }
-    requires some_pages { 9 * 512 ≤ M.size mem.old }
-    requires some { 1 ≤ level }
-    requires under { level < header.old.levels }
-    requires few { header.old.levels ≤ 6 }
+    requires sized { HasRoom K (M.size mem.old) }
+    requires below { IsBelowRoot header.old.levels level }
     requires inside { get_or path.now.pages (level + 1) 0 < M.size mem.old / 512 }
     requires free { header.old.free < M.size mem.old / 512 }
     ensures step { (e : ℕ) (b : List ℕ) → M.reveals mem.old b → (records : List (List ℕ))
-        → IsClimb e K (M.size mem.old / 512) b records header.old.levels level path.now.pages path.now.index key.old
-        link.old header.old.root header.old.free header.old.top
+        → IsClimb e K (M.size mem.old / 512) b records header.old.levels level path.now.pages path.now.index
+        half.old.key half.old.page header.old.root header.old.free header.old.top
         → MatchResult result
         (IsStep e K (M.size mem.old / 512) (M.reveals mem.new) records header.old.levels (level + 1) path.now.pages
-        path.now.index key.new link.new header.old.root header.new.free header.new.top)
+        path.now.index half.new.key half.new.page header.old.root header.new.free header.new.top)
         FromMemory }
     ensures on { (e root : ℕ) (b c : List ℕ) → M.reveals mem.old c
         → IsUnderWay K b c level level header.old.free header.old.top
@@ -98,12 +97,8 @@ pub fn put_up<M: FlatMem, const K: usize>(
         → IfOk result
         (λ done. done ≡ false → WasFull e K (M.size mem.old / 512) b (get_or path.now.pages (level + 1) 0)) }
     ensures free { IfOk result (λ _. header.new.free < M.size mem.old / 512) }
-    ensures count { header.new.count ≡ header.old.count }
-    ensures root { header.new.root ≡ header.old.root }
-    ensures levels { header.new.levels ≡ header.old.levels }
-    ensures kept { M.beside mem.old mem.new }
-    ensures cause { IfErr result (IfMemNotFull (M.accounted mem.old mem.new)) }
-    ensures cost { M.spent mem.new ≤ M.spent mem.old + 4 * M.cost }
+    ensures keeps { KeepsTree header.old header.new }
+    ensures works { Works M.FlatMem (4 * M.cost) mem.old mem.new result }
 {
     let at = path.pages[level as usize + 1];
     let place = path.index[level as usize + 1] as usize + 1;
@@ -117,19 +112,26 @@ pub fn put_up<M: FlatMem, const K: usize>(
         return Err(TreeError::Malformed { page: at });
     }
     if count < 500 / (K + 4) {
-        put_child(&mut page, count, place - 1, place, key, *link);
+        put_child(&mut page, count, place - 1, place, &half.key, half.page);
         match store(mem, at, &page) {
             Ok(()) => return Ok(true),
             Err(error) => return Err(error),
         }
     }
     let mut right = [0; PAGE_BYTES];
-    split_inner(&mut page, &mut right, count, place, key, *link);
+    split_inner(
+        &mut page,
+        &mut right,
+        count,
+        place,
+        &mut half.key,
+        half.page,
+    );
     let new = match store_halves(mem, header, at, &page, &right) {
         Ok(new) => new,
         Err(error) => return Err(error),
     };
-    *link = new;
+    half.page = new;
     Ok(false)
 }
 
@@ -140,10 +142,7 @@ pub fn grow<M: FlatMem, const K: usize>(
     key: &[u8; K],
     link: u32,
 ) -> Result<(), TreeError<M::Error>>
-    requires some_key { 1 ≤ K }
-    requires key_most { K ≤ 12 }
-    requires small { M.size mem.old ≤ 2 ^ 27 }
-    requires some_pages { 9 * 512 ≤ M.size mem.old }
+    requires sized { HasRoom K (M.size mem.old) }
     requires some { 1 ≤ header.old.levels }
     requires few { header.old.levels ≤ 6 }
     requires free { header.old.free < M.size mem.old / 512 }
@@ -163,9 +162,7 @@ pub fn grow<M: FlatMem, const K: usize>(
         → IfErr result (IfMalformed (StopsInsertion e K (M.size mem.old / 512) b)) }
     ensures few_now { IfOk result (λ _. header.new.levels ≤ 6) }
     ensures count { header.new.count ≡ header.old.count }
-    ensures kept { M.beside mem.old mem.new }
-    ensures cause { IfErr result (IfMemNotFull (M.accounted mem.old mem.new)) }
-    ensures cost { M.spent mem.new ≤ M.spent mem.old + 2 * M.cost }
+    ensures works { Works M.FlatMem (2 * M.cost) mem.old mem.new result }
 {
     if header.levels >= 6 {
         return Err(TreeError::Malformed { page: header.root });
@@ -190,21 +187,15 @@ pub fn climb<M: FlatMem, const K: usize>(
     mem: &mut M,
     header: &mut Header,
     path: &Path,
-    key: &mut [u8; K],
-    link: u32,
+    half: &mut NewHalf<K>,
 ) -> Result<(), TreeError<M::Error>>
-    requires some_key { 1 ≤ K }
-    requires key_most { K ≤ 12 }
-    requires small { M.size mem.old ≤ 2 ^ 27 }
-    requires some_pages { 9 * 512 ≤ M.size mem.old }
-    requires some { 1 ≤ header.old.levels }
-    requires few { header.old.levels ≤ 6 }
-    requires path { (l : ℕ) → 1 < l → l ≤ header.old.levels → get_or path.now.pages l 0 < M.size mem.old / 512 }
+    requires sized { HasRoom K (M.size mem.old) }
+    requires way { IsWay (M.size mem.old / 512) header.old.levels path.now.pages }
     requires free { header.old.free < M.size mem.old / 512 }
     ensures done { (e : ℕ) (b : List ℕ) → M.reveals mem.old b → (records : List (List ℕ)) → IsWidths e K
         → length records ≤ capacity_of e (M.size mem.old / 512)
-        → IsClimb e K (M.size mem.old / 512) b records header.old.levels 1 path.now.pages path.now.index key.old link
-        header.old.root header.old.free header.old.top
+        → IsClimb e K (M.size mem.old / 512) b records header.old.levels 1 path.now.pages path.now.index half.old.key
+        half.old.page header.old.root header.old.free header.old.top
         → MatchResult result
         (λ _.
         RevealsClosed e K (M.size mem.old / 512) (M.reveals mem.new) records header.new.levels header.new.root
@@ -216,14 +207,11 @@ pub fn climb<M: FlatMem, const K: usize>(
         → IfErr result (IfMalformed (StopsInsertion e K (M.size mem.old / 512) b)) }
     ensures few_now { IfOk result (λ _. header.new.levels ≤ 6) }
     ensures count { header.new.count ≡ header.old.count }
-    ensures kept { M.beside mem.old mem.new }
-    ensures cause { IfErr result (IfMemNotFull (M.accounted mem.old mem.new)) }
-    ensures cost { M.spent mem.new ≤ M.spent mem.old + 22 * M.cost }
+    ensures works { Works M.FlatMem (22 * M.cost) mem.old mem.new result }
 {
     let mut level = 1;
-    let mut link = link;
     'up: while level < header.levels {
-        match put_up(mem, header, path, level, key, &mut link) {
+        match put_up(mem, header, path, level, half) {
             Ok(done) => {
                 if done {
                     return Ok(());
@@ -233,5 +221,5 @@ pub fn climb<M: FlatMem, const K: usize>(
         }
         level += 1;
     }
-    grow(mem, header, key, link)
+    grow(mem, header, &half.key, half.page)
 }

@@ -1,13 +1,15 @@
 // A record that is replaced, by its index.
-ghost use Rattle.std.specs.Prelude.{◌≡◌, ℕ, ◌+◌, ◌*◌, ◌/◌, ◌^◌, ◌<◌, ◌≤◌, ◌⊎◌, List, length, take, IfOk, IfErr, MatchResult};
+ghost use Rattle.std.specs.Prelude.{◌≡◌, ℕ, ◌+◌, ◌*◌, ◌/◌, ◌<◌, ◌≤◌, ◌⊎◌, List, length, take, IfOk, IfErr, MatchResult};
 ghost use Rattle.flat_mem.specs.Order.{key_at};
-ghost use Rattle.page_tree.specs.Page.{IsWidths, page_at, count_in};
+ghost use Rattle.page_tree.specs.Page.{page_at, count_in};
 ghost use Rattle.page_tree.specs.Tree.{IsTree};
 ghost use Rattle.page_tree.specs.Climb.{IsHead};
-ghost use Rattle.page_tree.specs.Answer.{FromMemory, IfMemNotFull, IsPast, CanBegin};
+ghost use Rattle.page_tree.specs.Answer.{FromMemory, IsPast};
 ghost use Rattle.page_tree.specs.Broken.{Breaks, IfMalformed};
 ghost use Rattle.page_tree.specs.Placed.{IsSetAt};
 ghost use Rattle.page_tree.specs.Indexed.{IsNthSet, MissesNth};
+ghost use Rattle.page_tree.specs.Bounds.{IsSized, IsRoomy, HasRoot};
+ghost use Rattle.page_tree.specs.Calls.{Works};
 
 use crate::by_index::find_place;
 use crate::edits::set_record;
@@ -25,10 +27,8 @@ fn set_in<M: FlatMem, const E: usize, const K: usize>(
     path: &mut Path,
     page: &mut Page,
 ) -> Result<(), TreeError<M::Error>>
-    requires widths { IsWidths E K }
-    requires small { M.size mem.old ≤ 2 ^ 27 }
-    requires some { 1 ≤ header.levels }
-    requires begins { CanBegin (M.size mem.old / 512) header.levels header.root }
+    requires sized { IsSized E K (M.size mem.old) }
+    requires rooted { HasRoot (M.size mem.old / 512) header.levels header.root }
     ensures set { (b : List ℕ) → M.reveals mem.old b → (records : List (List ℕ))
         → IsTree E K (M.size mem.old / 512) b records
         → IsHead (page_at b 0) header.count header.root header.top header.free header.levels → index < length records
@@ -44,9 +44,7 @@ fn set_in<M: FlatMem, const E: usize, const K: usize>(
     ensures missing { (b : List ℕ) → M.reveals mem.old b
         → IsHead (page_at b 0) header.count header.root header.top header.free header.levels
         → IfErr result (IfMalformed (λ page. page ≡ 0 → MissesNth E K (M.size mem.old / 512) b index)) }
-    ensures kept { M.beside mem.old mem.new }
-    ensures cause { IfErr result (IfMemNotFull (M.accounted mem.old mem.new)) }
-    ensures cost { M.spent mem.new ≤ M.spent mem.old + (7 + 11 * (M.size mem.old / 512)) * M.cost }
+    ensures works { Works M.FlatMem ((7 + 11 * (M.size mem.old / 512)) * M.cost) mem.old mem.new result }
 {
     let place = match find_place::<M, E, K>(mem, header, index, path, page) {
         Ok(place) => place,
@@ -65,9 +63,7 @@ pub fn replace<M: FlatMem, const E: usize, const K: usize>(
     index: u32,
     entry: &[u8; E],
 ) -> Result<(), TreeError<M::Error>>
-    requires widths { IsWidths E K }
-    requires small { M.size mem.old ≤ 2 ^ 27 }
-    requires some_pages { 9 * 512 ≤ M.size mem.old }
+    requires sized { IsRoomy E K (M.size mem.old) }
     ensures answer { (b : List ℕ) → M.reveals mem.old b → (records : List (List ℕ))
         → IsTree E K (M.size mem.old / 512) b records → index < length records
         → take K entry.now ≡ key_at K records index
@@ -86,9 +82,7 @@ pub fn replace<M: FlatMem, const E: usize, const K: usize>(
         (λ page. Breaks E K (M.size mem.old / 512) b page ⊎ ((page ≡ 0) × (count_in (page_at b 0) ≤ index)))) }
     ensures missing { (b : List ℕ) → M.reveals mem.old b
         → IfErr result (IfMalformed (λ page. page ≡ 0 → MissesNth E K (M.size mem.old / 512) b index)) }
-    ensures kept { M.beside mem.old mem.new }
-    ensures cause { IfErr result (IfMemNotFull (M.accounted mem.old mem.new)) }
-    ensures cost { M.spent mem.new ≤ M.spent mem.old + 12 * (M.size mem.old / 512) * M.cost }
+    ensures works { Works M.FlatMem (12 * (M.size mem.old / 512) * M.cost) mem.old mem.new result }
 {
     let mut page = [0; PAGE_BYTES];
     let header = match read_header::<M, E, K>(mem, &mut page) {

@@ -7,25 +7,25 @@ ghost use Rattle.page_tree.specs.Copied.{copy_cells, leaf_without, leaf_joined, 
 use crate::pages::{put, put_count};
 use flat_mem::Page;
 
-/// Moves the cells from `from` up to `count` of another page to place `at` and after it. The cells stand `width` bytes apart from byte `base` on.
-fn copy_cells(
-    page: &mut Page,
+/// The cells of a page, `width` bytes apart from byte `base` on.
+#[derive(Clone, Copy, Drop)]
+struct Cells {
     base: usize,
     width: usize,
-    at: usize,
-    other: &Page,
-    from: usize,
-    count: usize,
-)
+}
+
+/// Moves the cells from `from` up to `count` of another page to place `at` and after it.
+fn copy_cells(page: &mut Page, cells: Cells, at: usize, other: &Page, from: usize, count: usize)
     requires order { from ≤ count }
-    requires there { base + width * count ≤ 512 }
-    requires fits { base + width * at + ((base + width * count) - (base + width * from)) ≤ 512 }
-    ensures { page.new ≡ copy_cells base width page.old at other.now from count }
+    requires there { cells.base + cells.width * count ≤ 512 }
+    requires fits { cells.base + cells.width * at
+        + ((cells.base + cells.width * count) - (cells.base + cells.width * from)) ≤ 512 }
+    ensures { page.new ≡ copy_cells cells.base cells.width page.old at other.now from count }
 {
     put(
         page,
-        base + width * at,
-        &other[base + width * from..base + width * count],
+        cells.base + cells.width * at,
+        &other[cells.base + cells.width * from..cells.base + cells.width * count],
     );
 }
 
@@ -37,7 +37,7 @@ pub fn remove_record<const E: usize>(page: &mut Page, count: usize, at: usize)
     ensures { page.new ≡ leaf_without E page.old count at }
 {
     let moved = *page;
-    copy_cells(page, 8, E, at, &moved, at + 1, count);
+    copy_cells(page, Cells { base: 8, width: E }, at, &moved, at + 1, count);
     put_count(page, count - 1);
 }
 
@@ -47,7 +47,7 @@ pub fn append_records<const E: usize>(page: &mut Page, count: usize, other: &Pag
     requires room { count + more ≤ leaf_room E }
     ensures { page.new ≡ leaf_joined E page.old count other.now more }
 {
-    copy_cells(page, 8, E, count, other, 0, more);
+    copy_cells(page, Cells { base: 8, width: E }, count, other, 0, more);
     put_count(page, count + more);
 }
 
@@ -78,17 +78,20 @@ pub fn remove_child<const K: usize>(page: &mut Page, count: usize, slot: usize, 
     ensures { page.new ≡ inner_without K page.old count slot at }
 {
     let moved = *page;
-    copy_cells(page, 8, K, slot, &moved, slot + 1, count);
-    let keyed = *page;
     copy_cells(
         page,
-        8 + K * (500 / (K + 4)),
-        4,
-        at,
-        &keyed,
-        at + 1,
-        count + 1,
+        Cells { base: 8, width: K },
+        slot,
+        &moved,
+        slot + 1,
+        count,
     );
+    let keyed = *page;
+    let links = Cells {
+        base: 8 + K * (500 / (K + 4)),
+        width: 4,
+    };
+    copy_cells(page, links, at, &keyed, at + 1, count + 1);
     put_count(page, count - 1);
 }
 
@@ -106,16 +109,12 @@ pub fn append_children<const K: usize>(
     ensures { page.new ≡ inner_joined K page.old count key.now other.now more }
 {
     put(page, 8 + K * count, key);
-    copy_cells(page, 8, K, count + 1, other, 0, more);
-    copy_cells(
-        page,
-        8 + K * (500 / (K + 4)),
-        4,
-        count + 1,
-        other,
-        0,
-        more + 1,
-    );
+    copy_cells(page, Cells { base: 8, width: K }, count + 1, other, 0, more);
+    let links = Cells {
+        base: 8 + K * (500 / (K + 4)),
+        width: 4,
+    };
+    copy_cells(page, links, count + 1, other, 0, more + 1);
     put_count(page, count + more + 1);
 }
 

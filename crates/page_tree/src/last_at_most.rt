@@ -1,13 +1,15 @@
 // The last record whose key is at most a given one, by its index.
-ghost use Rattle.std.specs.Prelude.{ℕ, ◌+◌, ◌*◌, ◌/◌, ◌^◌, ◌<◌, ◌≤◌, List, IfErr, MatchResult};
+ghost use Rattle.std.specs.Prelude.{ℕ, ◌+◌, ◌*◌, ◌/◌, List, IfErr, MatchResult};
 ghost use Rattle.flat_mem.specs.Order.{IsFound};
-ghost use Rattle.page_tree.specs.Page.{IsWidths, page_at};
+ghost use Rattle.page_tree.specs.Page.{page_at};
 ghost use Rattle.page_tree.specs.Tree.{IsTree};
 ghost use Rattle.page_tree.specs.SectorState.{IsSectorState};
 ghost use Rattle.page_tree.specs.Climb.{IsHead};
-ghost use Rattle.page_tree.specs.Answer.{FromMemory, IfMemNotFull, CanBegin};
+ghost use Rattle.page_tree.specs.Answer.{FromMemory};
 ghost use Rattle.page_tree.specs.Broken.{Breaks, IfMalformed};
 ghost use Rattle.page_tree.specs.Placed.{IsCounted};
+ghost use Rattle.page_tree.specs.Bounds.{IsSized, IsRoomy, HasRoot};
+ghost use Rattle.page_tree.specs.Calls.{Looks};
 
 use crate::by_index::first_leaf;
 use crate::error::TreeError;
@@ -24,21 +26,15 @@ fn count_to<M: FlatMem, const E: usize, const K: usize>(
     path: &mut Path,
     page: &mut Page,
 ) -> Result<u32, TreeError<M::Error>>
-    requires widths { IsWidths E K }
-    requires small { M.size mem.old ≤ 2 ^ 27 }
-    requires some { 1 ≤ header.levels }
-    requires begins { CanBegin (M.size mem.old / 512) header.levels header.root }
+    requires sized { IsSized E K (M.size mem.old) }
+    requires rooted { HasRoot (M.size mem.old / 512) header.levels header.root }
     ensures counted { (b : List ℕ) → M.reveals mem.old b → (records : List (List ℕ))
         → IsSectorState E K (M.size mem.old / 512) b records header.levels header.root header.free header.top
         → MatchResult result (IsCounted K records key.now) FromMemory }
     ensures broken { (b : List ℕ) → M.reveals mem.old b
         → IsHead (page_at b 0) header.count header.root header.top header.free header.levels
         → IfErr result (IfMalformed (Breaks E K (M.size mem.old / 512) b)) }
-    ensures unchanged { (b : List ℕ) → M.reveals mem.old b → M.reveals mem.new b }
-    ensures kept { M.beside mem.old mem.new }
-    ensures looked { M.only_reads mem.old mem.new }
-    ensures cause { IfErr result (IfMemNotFull (M.accounted mem.old mem.new)) }
-    ensures cost { M.spent mem.new ≤ M.spent mem.old + (6 + 11 * (M.size mem.old / 512)) * M.cost }
+    ensures looks { Looks M.FlatMem ((6 + 11 * (M.size mem.old / 512)) * M.cost) mem.old mem.new result }
 {
     let pages = (mem.len() / PAGE_BYTES as u64) as u32;
     match first_leaf::<M, E, K>(mem, header.root, header.levels, path, page) {
@@ -72,18 +68,12 @@ pub fn find_last_at_most<M: FlatMem, const E: usize, const K: usize>(
     mem: &mut M,
     key: &[u8; K],
 ) -> Result<Option<u32>, TreeError<M::Error>>
-    requires widths { IsWidths E K }
-    requires small { M.size mem.old ≤ 2 ^ 27 }
-    requires some_pages { 9 * 512 ≤ M.size mem.old }
+    requires sized { IsRoomy E K (M.size mem.old) }
     ensures answer { (b : List ℕ) → M.reveals mem.old b → (records : List (List ℕ))
         → IsTree E K (M.size mem.old / 512) b records → MatchResult result (IsFound K records key.now) FromMemory }
     ensures broken { (b : List ℕ) → M.reveals mem.old b
         → IfErr result (IfMalformed (Breaks E K (M.size mem.old / 512) b)) }
-    ensures unchanged { (b : List ℕ) → M.reveals mem.old b → M.reveals mem.new b }
-    ensures kept { M.beside mem.old mem.new }
-    ensures looked { M.only_reads mem.old mem.new }
-    ensures cause { IfErr result (IfMemNotFull (M.accounted mem.old mem.new)) }
-    ensures cost { M.spent mem.new ≤ M.spent mem.old + 12 * (M.size mem.old / 512) * M.cost }
+    ensures looks { Looks M.FlatMem (12 * (M.size mem.old / 512) * M.cost) mem.old mem.new result }
 {
     let mut page = [0; PAGE_BYTES];
     let header = match read_header::<M, E, K>(mem, &mut page) {

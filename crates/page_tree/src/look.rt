@@ -1,5 +1,5 @@
 // Searches from the root down.
-ghost use Rattle.std.specs.Prelude.{◌≡◌, ℕ, ◌+◌, ◌-◌, ◌*◌, ◌/◌, ◌^◌, ◌<◌, ◌≤◌, List, length, get_or, true, false, IfOk, IfErr, IfSome, OnOk, MatchResult, is_some};
+ghost use Rattle.std.specs.Prelude.{◌≡◌, ℕ, ◌*◌, ◌/◌, ◌^◌, ◌<◌, ◌≤◌, List, length, get_or, true, false, IfOk, IfErr, IfSome, OnOk, MatchResult, is_some};
 ghost use Rattle.page_tree.specs.Page.{IsWidths, page_at, kind_of, filled, leaf_room, count_in, root_in, top_in, free_in, levels_in};
 ghost use Rattle.page_tree.specs.Tree.{Node, IsRooted, IsTree};
 ghost use Rattle.page_tree.specs.Path.{IsReached};
@@ -8,7 +8,9 @@ ghost use Rattle.page_tree.specs.Put.{capacity_of};
 ghost use Rattle.page_tree.specs.Broken.{AreInForm, IsHeaderForm, Meets, Breaks, IfMalformed};
 ghost use Rattle.page_tree.specs.Met.{IsMetPath};
 ghost use Rattle.page_tree.specs.Reveals.{StandsIn};
-ghost use Rattle.page_tree.specs.Answer.{IsLastEntry, IsLastInPage, CanBegin, FromMemory, IfMemNotFull, IsPast};
+ghost use Rattle.page_tree.specs.Answer.{IsLastEntry, IsLastInPage, CanBegin, FromMemory, IsPast};
+ghost use Rattle.page_tree.specs.Bounds.{IsRoomy, IsOnLevel};
+ghost use Rattle.page_tree.specs.Calls.{Looks};
 
 use crate::error::TreeError;
 use crate::pages::{count_at_most, filled_of, link_of, load};
@@ -60,9 +62,7 @@ pub fn descend<M: FlatMem, const E: usize, const K: usize>(
 ) -> Result<u32, TreeError<M::Error>>
     requires widths { IsWidths E K }
     requires small { M.size mem.old ≤ 2 ^ 31 }
-    requires some { 1 ≤ levels }
-    requires most { levels ≤ 6 }
-    requires inside { root < M.size mem.old / 512 }
+    requires place { IsOnLevel (M.size mem.old / 512) levels root }
     ensures leaf { (b : List ℕ) → M.reveals mem.old b → (records : List (List ℕ)) (nodes : ℕ → List Node)
         → IsRooted E K (M.size mem.old / 512) b records levels root nodes
         → MatchResult result (λ at. IsReached b levels nodes key.now page.new path.new.pages path.new.index at)
@@ -76,11 +76,7 @@ pub fn descend<M: FlatMem, const E: usize, const K: usize>(
     ensures path { IfOk result (λ _. (l : ℕ) → 1 < l → l ≤ levels → get_or path.new.pages l 0 < M.size mem.old / 512) }
     ensures broken { (b : List ℕ) → M.reveals mem.old b → Meets K b levels root
         → IfErr result (IfMalformed (Breaks E K (M.size mem.old / 512) b)) }
-    ensures unchanged { (b : List ℕ) → M.reveals mem.old b → M.reveals mem.new b }
-    ensures kept { M.beside mem.old mem.new }
-    ensures looked { M.only_reads mem.old mem.new }
-    ensures cause { IfErr result (IfMemNotFull (M.accounted mem.old mem.new)) }
-    ensures cost { M.spent mem.new ≤ M.spent mem.old + levels * M.cost }
+    ensures looks { Looks M.FlatMem (levels * M.cost) mem.old mem.new result }
 {
     let pages = (mem.len() / PAGE_BYTES as u64) as u32;
     let mut at = root;
@@ -165,9 +161,7 @@ pub fn read_header<M: FlatMem, const E: usize, const K: usize>(
     mem: &mut M,
     page: &mut Page,
 ) -> Result<Header, TreeError<M::Error>>
-    requires widths { IsWidths E K }
-    requires small { M.size mem.old ≤ 2 ^ 27 }
-    requires some_pages { 9 * 512 ≤ M.size mem.old }
+    requires sized { IsRoomy E K (M.size mem.old) }
     ensures header { (b : List ℕ) → M.reveals mem.old b
         → IfOk result (λ h. (h.levels ≡ levels_in (page_at b 0)) × (h.root ≡ root_in (page_at b 0))) }
     ensures read { (b : List ℕ) → M.reveals mem.old b → OnOk result (page.new ≡ page_at b 0) }
@@ -183,11 +177,7 @@ pub fn read_header<M: FlatMem, const E: usize, const K: usize>(
         → IfErr result (IfMalformed (Breaks E K (M.size mem.old / 512) b)) }
     ensures unlike { (b : List ℕ) → M.reveals mem.old b
         → IfErr result (IfMalformed (λ _. ¬ IsHeaderForm E (M.size mem.old / 512) (page_at b 0))) }
-    ensures unchanged { (b : List ℕ) → M.reveals mem.old b → M.reveals mem.new b }
-    ensures kept { M.beside mem.old mem.new }
-    ensures looked { M.only_reads mem.old mem.new }
-    ensures cause { IfErr result (IfMemNotFull (M.accounted mem.old mem.new)) }
-    ensures cost { M.spent mem.new ≤ M.spent mem.old + M.cost }
+    ensures looks { Looks M.FlatMem M.cost mem.old mem.new result }
 {
     let pages = (mem.len() / PAGE_BYTES as u64) as u32;
     load(mem, 0, page)?;
@@ -202,9 +192,7 @@ pub fn read_header<M: FlatMem, const E: usize, const K: usize>(
 pub fn read_numbers<M: FlatMem, const E: usize, const K: usize>(
     mem: &mut M,
 ) -> Result<Header, TreeError<M::Error>>
-    requires widths { IsWidths E K }
-    requires small { M.size mem.old ≤ 2 ^ 27 }
-    requires some_pages { 9 * 512 ≤ M.size mem.old }
+    requires sized { IsRoomy E K (M.size mem.old) }
     ensures header { (b : List ℕ) → M.reveals mem.old b
         → IfOk result (λ h. (h.levels ≡ levels_in (page_at b 0)) × (h.root ≡ root_in (page_at b 0))) }
     ensures fields { (b : List ℕ) → M.reveals mem.old b
@@ -214,11 +202,7 @@ pub fn read_numbers<M: FlatMem, const E: usize, const K: usize>(
         → IsTree E K (M.size mem.old / 512) b records → IfErr result FromMemory }
     ensures broken { (b : List ℕ) → M.reveals mem.old b
         → IfErr result (IfMalformed (Breaks E K (M.size mem.old / 512) b)) }
-    ensures unchanged { (b : List ℕ) → M.reveals mem.old b → M.reveals mem.new b }
-    ensures kept { M.beside mem.old mem.new }
-    ensures looked { M.only_reads mem.old mem.new }
-    ensures cause { IfErr result (IfMemNotFull (M.accounted mem.old mem.new)) }
-    ensures cost { M.spent mem.new ≤ M.spent mem.old + M.cost }
+    ensures looks { Looks M.FlatMem M.cost mem.old mem.new result }
 {
     let pages = (mem.len() / PAGE_BYTES as u64) as u32;
     let mut bytes = [0; 20];
@@ -237,19 +221,13 @@ pub fn read_numbers<M: FlatMem, const E: usize, const K: usize>(
 pub fn count<M: FlatMem, const E: usize, const K: usize>(
     mem: &mut M,
 ) -> Result<u32, TreeError<M::Error>>
-    requires widths { IsWidths E K }
-    requires small { M.size mem.old ≤ 2 ^ 27 }
-    requires some_pages { 9 * 512 ≤ M.size mem.old }
+    requires sized { IsRoomy E K (M.size mem.old) }
     ensures header { (b : List ℕ) → M.reveals mem.old b → IfOk result (λ n. n ≡ count_in (page_at b 0)) }
     ensures well { (b : List ℕ) → M.reveals mem.old b → (records : List (List ℕ))
         → IsTree E K (M.size mem.old / 512) b records → MatchResult result (λ n. n ≡ length records) FromMemory }
     ensures broken { (b : List ℕ) → M.reveals mem.old b
         → IfErr result (IfMalformed (Breaks E K (M.size mem.old / 512) b)) }
-    ensures unchanged { (b : List ℕ) → M.reveals mem.old b → M.reveals mem.new b }
-    ensures kept { M.beside mem.old mem.new }
-    ensures looked { M.only_reads mem.old mem.new }
-    ensures cause { IfErr result (IfMemNotFull (M.accounted mem.old mem.new)) }
-    ensures cost { M.spent mem.new ≤ M.spent mem.old + M.cost }
+    ensures looks { Looks M.FlatMem M.cost mem.old mem.new result }
 {
     match read_numbers::<M, E, K>(mem) {
         Ok(header) => Ok(header.count),
@@ -263,20 +241,14 @@ pub fn look_up<M: FlatMem, const E: usize, const K: usize>(
     key: &[u8; K],
     into: &mut [u8; E],
 ) -> Result<Option<u32>, TreeError<M::Error>>
-    requires widths { IsWidths E K }
-    requires small { M.size mem.old ≤ 2 ^ 27 }
-    requires some_pages { 9 * 512 ≤ M.size mem.old }
+    requires sized { IsRoomy E K (M.size mem.old) }
     ensures answer { (b : List ℕ) → M.reveals mem.old b → (records : List (List ℕ))
         → IsTree E K (M.size mem.old / 512) b records
         → MatchResult result (λ found. IsLastEntry K records key.now into.new (is_some found)) FromMemory }
     ensures home { (b : List ℕ) → M.reveals mem.old b → IfOk result (λ found. IfSome found (StandsIn E K b into.new)) }
     ensures broken { (b : List ℕ) → M.reveals mem.old b
         → IfErr result (IfMalformed (Breaks E K (M.size mem.old / 512) b)) }
-    ensures unchanged { (b : List ℕ) → M.reveals mem.old b → M.reveals mem.new b }
-    ensures kept { M.beside mem.old mem.new }
-    ensures looked { M.only_reads mem.old mem.new }
-    ensures cause { IfErr result (IfMemNotFull (M.accounted mem.old mem.new)) }
-    ensures cost { M.spent mem.new ≤ M.spent mem.old + 7 * M.cost }
+    ensures looks { Looks M.FlatMem (7 * M.cost) mem.old mem.new result }
 {
     let mut page = [0; PAGE_BYTES];
     let mut path = Path {

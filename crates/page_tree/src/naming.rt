@@ -1,7 +1,9 @@
 // The new first key of a leaf, in the page above that has it.
-ghost use Rattle.std.specs.Prelude.{◌≡◌, ℕ, ◌+◌, ◌*◌, ◌/◌, ◌^◌, ◌≤◌, List, length, IfErr, MatchResult};
-ghost use Rattle.page_tree.specs.Answer.{FromMemory, IfMemNotFull};
+ghost use Rattle.std.specs.Prelude.{◌≡◌, ℕ, ◌*◌, ◌/◌, ◌≤◌, List, length, MatchResult};
+ghost use Rattle.page_tree.specs.Answer.{FromMemory};
 ghost use Rattle.page_tree.specs.Named.{IsLowestTurn, CanName, IsNamed};
+ghost use Rattle.page_tree.specs.Bounds.{IsKeyed};
+ghost use Rattle.page_tree.specs.Calls.{Works};
 
 use crate::edits::set_key;
 use crate::error::TreeError;
@@ -32,18 +34,14 @@ pub fn name_leaf<M: FlatMem, const K: usize>(
     key: &[u8; K],
     page: &mut Page,
 ) -> Result<(), TreeError<M::Error>>
-    requires some_key { 1 ≤ K }
-    requires key_most { K ≤ 12 }
-    requires small { M.size mem.old ≤ 2 ^ 27 }
+    requires sized { IsKeyed K (M.size mem.old) }
     requires few { levels ≤ 6 }
     ensures named { (b : List ℕ) → M.reveals mem.old b
         → CanName K b (M.size mem.old / 512) levels path.now.pages path.now.index
         → MatchResult result (λ _. IsNamed K (M.reveals mem.new) b levels path.now.pages path.now.index key.now)
         FromMemory }
     ensures width { length key.now ≡ K }
-    ensures kept { M.beside mem.old mem.new }
-    ensures cause { IfErr result (IfMemNotFull (M.accounted mem.old mem.new)) }
-    ensures cost { M.spent mem.new ≤ M.spent mem.old + 2 * M.cost }
+    ensures works { Works M.FlatMem (2 * M.cost) mem.old mem.new result }
 {
     let level = match lowest_turn(path, levels) {
         Some(level) => level,

@@ -1,14 +1,16 @@
 // A record that is taken out by its index.
-ghost use Rattle.std.specs.Prelude.{◌≡◌, ℕ, ◌+◌, ◌*◌, ◌/◌, ◌^◌, ◌<◌, ◌≤◌, ◌⊎◌, List, length, get_or, remove, IfOk, IfErr, MatchResult};
-ghost use Rattle.page_tree.specs.Page.{IsWidths, page_at, filled, leaf_room, count_in, levels_in};
+ghost use Rattle.std.specs.Prelude.{◌≡◌, ℕ, ◌+◌, ◌*◌, ◌/◌, ◌<◌, ◌≤◌, ◌⊎◌, List, length, remove, IfOk, IfErr, MatchResult};
+ghost use Rattle.page_tree.specs.Page.{page_at, filled, leaf_room, count_in, levels_in};
 ghost use Rattle.page_tree.specs.Tree.{IsTree};
 ghost use Rattle.page_tree.specs.SectorState.{IsSectorState};
 ghost use Rattle.page_tree.specs.Climb.{IsHead};
-ghost use Rattle.page_tree.specs.Answer.{FromMemory, IfMemNotFull, IsPast, CanBegin};
+ghost use Rattle.page_tree.specs.Answer.{FromMemory, IsPast};
 ghost use Rattle.page_tree.specs.Broken.{Meets, Breaks, IfMalformed};
 ghost use Rattle.page_tree.specs.Met.{IsMetPath};
 ghost use Rattle.page_tree.specs.Placed.{IsPlaced, IsLeft, IsOutAt};
 ghost use Rattle.page_tree.specs.Indexed.{HasNth, MissesNth};
+ghost use Rattle.page_tree.specs.Bounds.{IsSized, IsRoomy, IsWay, HasRoot};
+ghost use Rattle.page_tree.specs.Calls.{Works};
 
 use crate::by_index::{Place, find_place};
 use crate::error::TreeError;
@@ -26,16 +28,10 @@ fn take_out<M: FlatMem, const E: usize, const K: usize>(
     path: &Path,
     place: Place,
     page: &mut Page,
-    above: &mut Page,
-    second: &mut [u8; E],
-    second_key: &mut [u8; K],
 ) -> Result<(), TreeError<M::Error>>
-    requires widths { IsWidths E K }
-    requires small { M.size mem.old ≤ 2 ^ 27 }
-    requires some { 1 ≤ header.old.levels }
-    requires few { header.old.levels ≤ 6 }
+    requires sized { IsSized E K (M.size mem.old) }
+    requires way { IsWay (M.size mem.old / 512) header.old.levels path.now.pages }
     requires inside { place.page < M.size mem.old / 512 }
-    requires path { (l : ℕ) → 1 < l → l ≤ header.old.levels → get_or path.now.pages l 0 < M.size mem.old / 512 }
     requires below { place.index < filled page.old }
     requires most { filled page.old ≤ leaf_room E }
     ensures out { (b : List ℕ) → M.reveals mem.old b
@@ -57,9 +53,7 @@ fn take_out<M: FlatMem, const E: usize, const K: usize>(
         → IfErr result (IfMalformed (λ page. 1 ≤ page)) }
     ensures levels { header.new.levels ≤ header.old.levels }
     ensures count { header.new.count ≡ header.old.count }
-    ensures kept { M.beside mem.old mem.new }
-    ensures cause { IfErr result (IfMemNotFull (M.accounted mem.old mem.new)) }
-    ensures cost { M.spent mem.new ≤ M.spent mem.old + 28 * M.cost }
+    ensures works { Works M.FlatMem (28 * M.cost) mem.old mem.new result }
 {
     let count = filled_of(page);
     if count == 1 {
@@ -74,14 +68,12 @@ fn take_out<M: FlatMem, const E: usize, const K: usize>(
         }
     }
     if place.index == 0 {
-        match take_first::<M, E, K>(
-            mem, header, path, place.page, page, count, above, second, second_key,
-        ) {
+        match take_first::<M, E, K>(mem, header, path, place.page, page, count) {
             Ok(()) => return Ok(()),
             Err(error) => return Err(error),
         }
     }
-    match take_later::<M, E, K>(mem, header, path, place.page, page, count, place.index) {
+    match take_later::<M, E, K>(mem, header, path, place, page, count) {
         Ok(()) => (),
         Err(error) => return Err(error),
     }
@@ -96,10 +88,8 @@ fn remove_in<M: FlatMem, const E: usize, const K: usize>(
     path: &mut Path,
     page: &mut Page,
 ) -> Result<(), TreeError<M::Error>>
-    requires widths { IsWidths E K }
-    requires small { M.size mem.old ≤ 2 ^ 27 }
-    requires some { 1 ≤ header.old.levels }
-    requires begins { CanBegin (M.size mem.old / 512) header.old.levels header.old.root }
+    requires sized { IsSized E K (M.size mem.old) }
+    requires rooted { HasRoot (M.size mem.old / 512) header.old.levels header.old.root }
     ensures out { (b : List ℕ) → M.reveals mem.old b → (records : List (List ℕ))
         → IsTree E K (M.size mem.old / 512) b records
         → IsHead (page_at b 0) header.old.count header.old.root header.old.top header.old.free header.old.levels
@@ -120,27 +110,13 @@ fn remove_in<M: FlatMem, const E: usize, const K: usize>(
         → IfErr result (IfMalformed (λ page. page ≡ 0 → MissesNth E K (M.size mem.old / 512) b index)) }
     ensures few { header.new.levels ≤ 6 }
     ensures count { header.new.count ≡ header.old.count }
-    ensures kept { M.beside mem.old mem.new }
-    ensures cause { IfErr result (IfMemNotFull (M.accounted mem.old mem.new)) }
-    ensures cost { M.spent mem.new ≤ M.spent mem.old + (34 + 11 * (M.size mem.old / 512)) * M.cost }
+    ensures works { Works M.FlatMem ((34 + 11 * (M.size mem.old / 512)) * M.cost) mem.old mem.new result }
 {
     let place = match find_place::<M, E, K>(mem, *header, index, path, page) {
         Ok(place) => place,
         Err(error) => return Err(error),
     };
-    let mut above = [0; PAGE_BYTES];
-    let mut second = [0; E];
-    let mut second_key = [0; K];
-    match take_out::<M, E, K>(
-        mem,
-        header,
-        path,
-        place,
-        page,
-        &mut above,
-        &mut second,
-        &mut second_key,
-    ) {
+    match take_out::<M, E, K>(mem, header, path, place, page) {
         Ok(()) => Ok(()),
         Err(error) => Err(error),
     }
@@ -151,9 +127,7 @@ pub fn remove<M: FlatMem, const E: usize, const K: usize>(
     mem: &mut M,
     index: u32,
 ) -> Result<(), TreeError<M::Error>>
-    requires widths { IsWidths E K }
-    requires small { M.size mem.old ≤ 2 ^ 27 }
-    requires some_pages { 9 * 512 ≤ M.size mem.old }
+    requires sized { IsRoomy E K (M.size mem.old) }
     ensures answer { (b : List ℕ) → M.reveals mem.old b → (records : List (List ℕ))
         → IsTree E K (M.size mem.old / 512) b records → index < length records
         → MatchResult result (λ _. IsOutAt E K (M.size mem.old / 512) (M.reveals mem.new) records index) FromMemory }
@@ -169,9 +143,7 @@ pub fn remove<M: FlatMem, const E: usize, const K: usize>(
         (λ page. Breaks E K (M.size mem.old / 512) b page ⊎ ((page ≡ 0) × (count_in (page_at b 0) ≤ index)))) }
     ensures missing { (b : List ℕ) → M.reveals mem.old b
         → IfErr result (IfMalformed (λ page. page ≡ 0 → MissesNth E K (M.size mem.old / 512) b index)) }
-    ensures kept { M.beside mem.old mem.new }
-    ensures cause { IfErr result (IfMemNotFull (M.accounted mem.old mem.new)) }
-    ensures cost { M.spent mem.new ≤ M.spent mem.old + 15 * (M.size mem.old / 512) * M.cost }
+    ensures works { Works M.FlatMem (15 * (M.size mem.old / 512) * M.cost) mem.old mem.new result }
 {
     let mut head = [0; PAGE_BYTES];
     let mut header = match read_header::<M, E, K>(mem, &mut head) {

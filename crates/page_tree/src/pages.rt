@@ -4,8 +4,9 @@ ghost use Rattle.byteorder.specs.Endian.{big_number};
 ghost use Rattle.flat_mem.specs.Memory.{part, overwritten};
 ghost use Rattle.flat_mem.specs.Order.{at_most};
 ghost use Rattle.page_tree.specs.Page.{page_at, filled, key_room, leaf_room, link_at, key_at};
-ghost use Rattle.page_tree.specs.Answer.{FromMemory, IfMemNotFull};
+ghost use Rattle.page_tree.specs.Answer.{FromMemory};
 ghost use Rattle.page_tree.specs.Change.{with_record, with_cell, with_count, with_child, with_root, with_leaf, from_cell, leaf_from, inner_from};
+ghost use Rattle.page_tree.specs.Calls.{Looks, Works};
 
 use crate::error::TreeError;
 use byteorder::{BigEndian, ByteOrder};
@@ -74,11 +75,7 @@ pub fn load<M: FlatMem>(mem: &mut M, index: u32, page: &mut Page) -> Result<(), 
     requires { 512 * index + 512 ≤ M.size mem.old }
     ensures read { (b : List ℕ) → M.reveals mem.old b → OnOk result (page.new ≡ page_at b index) }
     ensures memory { IfErr result FromMemory }
-    ensures unchanged { (b : List ℕ) → M.reveals mem.old b → M.reveals mem.new b }
-    ensures kept { M.beside mem.old mem.new }
-    ensures looked { M.only_reads mem.old mem.new }
-    ensures cause { IfErr result (IfMemNotFull (M.accounted mem.old mem.new)) }
-    ensures cost { M.spent mem.new ≤ M.spent mem.old + M.cost }
+    ensures looks { Looks M.FlatMem M.cost mem.old mem.new result }
 {
     match mem.read(PAGE_BYTES as u64 * index as u64, page) {
         Ok(()) => Ok(()),
@@ -151,9 +148,7 @@ pub fn store<M: FlatMem>(mem: &mut M, index: u32, page: &Page) -> Result<(), Tre
     ensures written { (b : List ℕ) → M.reveals mem.old b
         → OnOk result (M.reveals mem.new (overwritten b (512 * index) page.now)) }
     ensures memory { IfErr result FromMemory }
-    ensures kept { M.beside mem.old mem.new }
-    ensures cause { IfErr result (IfMemNotFull (M.accounted mem.old mem.new)) }
-    ensures cost { M.spent mem.new ≤ M.spent mem.old + M.cost }
+    ensures works { Works M.FlatMem M.cost mem.old mem.new result }
 {
     match mem.write(PAGE_BYTES as u64 * index as u64, page) {
         Ok(()) => Ok(()),

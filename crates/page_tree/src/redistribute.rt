@@ -1,11 +1,12 @@
 // Two neighbours are written, and a page is freed.
 ghost use Rattle.std.specs.Prelude.{◌≡◌, ℕ, ◌+◌, ◌*◌, ◌/◌, ◌<◌, ◌≤◌, List, ◌++◌, IfErr, OnOk, MatchResult};
 ghost use Rattle.page_tree.specs.Page.{IsWidths, filled};
-ghost use Rattle.page_tree.specs.Answer.{FromMemory, IfMemNotFull};
+ghost use Rattle.page_tree.specs.Answer.{FromMemory};
 ghost use Rattle.page_tree.specs.Neighbours.{IsBalanced, IsLean};
 ghost use Rattle.page_tree.specs.Underfull.{IsPair, IsRedistributed, IsGiven};
 ghost use Rattle.page_tree.specs.Broken.{Meets};
 ghost use Rattle.page_tree.specs.Rebalancing.{IsRebalancing, AreNotAbove};
+ghost use Rattle.page_tree.specs.Calls.{Works, KeepsTree};
 
 use crate::balance::{balance_inners, balance_leaves};
 use crate::edits::set_free;
@@ -13,6 +14,14 @@ use crate::error::TreeError;
 use crate::look::Header;
 use crate::pages::store;
 use flat_mem::{FlatMem, PAGE_BYTES, Page};
+
+/// Two neighbours of one level, under one page.
+#[derive(Clone, Copy, Drop)]
+pub struct Neighbours {
+    pub level: u32,
+    pub left: u32,
+    pub right: u32,
+}
 
 /// Puts a page at the head of the list of free pages.
 pub fn give_page<M: FlatMem>(
@@ -24,14 +33,10 @@ pub fn give_page<M: FlatMem>(
     ensures given { (b : List ℕ) → M.reveals mem.old b
         → MatchResult result (λ _. IsGiven (M.reveals mem.new) b at header.old.free) FromMemory }
     ensures free { OnOk result (header.new.free ≡ at) }
-    ensures count { header.new.count ≡ header.old.count }
-    ensures root { header.new.root ≡ header.old.root }
+    ensures keeps { KeepsTree header.old header.new }
     ensures top { header.new.top ≡ header.old.top }
-    ensures levels { header.new.levels ≡ header.old.levels }
     ensures memory { IfErr result FromMemory }
-    ensures kept { M.beside mem.old mem.new }
-    ensures cause { IfErr result (IfMemNotFull (M.accounted mem.old mem.new)) }
-    ensures cost { M.spent mem.new ≤ M.spent mem.old + M.cost }
+    ensures works { Works M.FlatMem M.cost mem.old mem.new result }
 {
     let mut page = [0; PAGE_BYTES];
     write_free(mem, &mut page, at, header.free)?;
@@ -49,9 +54,7 @@ fn write_free<M: FlatMem>(
     ensures given { (b : List ℕ) → M.reveals mem.old b
         → MatchResult result (λ _. IsGiven (M.reveals mem.new) b at next) FromMemory }
     ensures memory { IfErr result FromMemory }
-    ensures kept { M.beside mem.old mem.new }
-    ensures cause { IfErr result (IfMemNotFull (M.accounted mem.old mem.new)) }
-    ensures cost { M.spent mem.new ≤ M.spent mem.old + M.cost }
+    ensures works { Works M.FlatMem M.cost mem.old mem.new result }
 {
     set_free(page, next);
     match store(mem, at, page) {
@@ -82,56 +85,51 @@ fn balance<const E: usize, const K: usize>(
     }
 }
 
-/// Joins two neighbours of level `level` and says whether they are one page now, or shifts one item; then they are written.
+/// Joins two neighbours and says whether they are one page now, or shifts one item; then they are written.
 pub fn redistribute_page<M: FlatMem, const E: usize, const K: usize>(
     mem: &mut M,
     header: &mut Header,
-    level: u32,
-    left_at: u32,
+    pair: Neighbours,
     left: &mut Page,
-    right_at: u32,
     right: &mut Page,
     key: &mut [u8; K],
 ) -> Result<bool, TreeError<M::Error>>
     requires widths { IsWidths E K }
-    requires lean { IsLean E K level (filled left.old) (filled right.old) }
-    requires left_inside { left_at < M.size mem.old / 512 }
-    requires right_inside { right_at < M.size mem.old / 512 }
+    requires lean { IsLean E K pair.level (filled left.old) (filled right.old) }
+    requires left_inside { pair.left < M.size mem.old / 512 }
+    requires right_inside { pair.right < M.size mem.old / 512 }
     ensures redistribute { (b : List ℕ) → M.reveals mem.old b
         → (records : List (List ℕ)) (levels : ℕ) (paths index : List ℕ) (slot : ℕ)
-        → IsPair E K (M.size mem.old / 512) b records levels level paths index left_at right_at slot left.old right.old
-        key.old header.old.root header.old.free header.old.top
-        → 1 ≤ level
+        → IsPair E K (M.size mem.old / 512) b records levels pair.level paths index pair.left pair.right slot left.old
+        right.old key.old header.old.root header.old.free header.old.top
+        → 1 ≤ pair.level
         → MatchResult result
-        (IsRedistributed E K (M.size mem.old / 512) (M.reveals mem.new) b records levels level paths index left_at
-        right_at slot key.new header.old.root header.new.free header.old.top)
+        (IsRedistributed E K (M.size mem.old / 512) (M.reveals mem.new) b records levels pair.level paths index
+        pair.left pair.right slot key.new header.old.root header.new.free header.old.top)
         FromMemory }
     ensures on { (root levels : ℕ) (paths index b c : List ℕ) → M.reveals mem.old c
-        → IsRebalancing K b c levels level root paths index → 1 ≤ level → Meets K b level left_at
-        → Meets K b level right_at → AreNotAbove paths level levels left_at right_at
+        → IsRebalancing K b c levels pair.level root paths index → 1 ≤ pair.level → Meets K b pair.level pair.left
+        → Meets K b pair.level pair.right → AreNotAbove paths pair.level levels pair.left pair.right
         → MatchResult result
-        (λ _. (d : List ℕ) × M.reveals mem.new d × IsRebalancing K b d levels (level + 1) root paths index) FromMemory }
-    ensures count { header.new.count ≡ header.old.count }
-    ensures root { header.new.root ≡ header.old.root }
+        (λ _. (d : List ℕ) × M.reveals mem.new d × IsRebalancing K b d levels (pair.level + 1) root paths index)
+        FromMemory }
+    ensures keeps { KeepsTree header.old header.new }
     ensures top { header.new.top ≡ header.old.top }
-    ensures levels { header.new.levels ≡ header.old.levels }
     ensures memory { IfErr result FromMemory }
-    ensures kept { M.beside mem.old mem.new }
-    ensures cause { IfErr result (IfMemNotFull (M.accounted mem.old mem.new)) }
-    ensures cost { M.spent mem.new ≤ M.spent mem.old + 2 * M.cost }
+    ensures works { Works M.FlatMem (2 * M.cost) mem.old mem.new result }
 {
-    let joined = balance::<E, K>(level, left, right, key);
-    match store(mem, left_at, left) {
+    let joined = balance::<E, K>(pair.level, left, right, key);
+    match store(mem, pair.left, left) {
         Ok(()) => (),
         Err(error) => return Err(error),
     }
     if joined {
-        match give_page(mem, header, right_at) {
+        match give_page(mem, header, pair.right) {
             Ok(()) => return Ok(true),
             Err(error) => return Err(error),
         }
     }
-    match store(mem, right_at, right) {
+    match store(mem, pair.right, right) {
         Ok(()) => Ok(false),
         Err(error) => Err(error),
     }

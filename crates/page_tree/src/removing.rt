@@ -1,13 +1,16 @@
 // A removal by its key, from the header on.
-ghost use Rattle.std.specs.Prelude.{◌≡◌, ℕ, ◌+◌, ◌*◌, ◌/◌, ◌^◌, ◌<◌, ◌≤◌, List, false, IfOk, IfErr, MatchResult};
-ghost use Rattle.page_tree.specs.Page.{IsWidths, page_at, levels_in};
+ghost use Rattle.std.specs.Prelude.{◌≡◌, ℕ, ◌*◌, ◌/◌, ◌≤◌, List, false, IfOk, IfErr, MatchResult};
+ghost use Rattle.page_tree.specs.Page.{page_at, levels_in};
 ghost use Rattle.page_tree.specs.Tree.{IsTree};
-ghost use Rattle.page_tree.specs.Answer.{FromMemory, IfMemNotFull, CanBegin};
+ghost use Rattle.page_tree.specs.Answer.{FromMemory};
 ghost use Rattle.page_tree.specs.Climb.{IsHead};
 ghost use Rattle.page_tree.specs.Removed.{IsRemoved};
 ghost use Rattle.page_tree.specs.Out.{IsOut};
 ghost use Rattle.page_tree.specs.Broken.{Meets, Breaks, IfMalformed};
+ghost use Rattle.page_tree.specs.Bounds.{IsSized, IsRoomy, HasRoot};
+ghost use Rattle.page_tree.specs.Calls.{Works};
 
+use crate::by_index::Place;
 use crate::error::TreeError;
 use crate::look::{Header, Path, descend, read_header};
 use crate::pages::filled_of;
@@ -24,14 +27,9 @@ fn remove_in<M: FlatMem, const E: usize, const K: usize>(
     key: &[u8; K],
     path: &mut Path,
     page: &mut Page,
-    above: &mut Page,
-    second: &mut [u8; E],
-    second_key: &mut [u8; K],
 ) -> Result<bool, TreeError<M::Error>>
-    requires widths { IsWidths E K }
-    requires small { M.size mem.old ≤ 2 ^ 27 }
-    requires some { 1 ≤ header.old.levels }
-    requires begins { CanBegin (M.size mem.old / 512) header.old.levels header.old.root }
+    requires sized { IsSized E K (M.size mem.old) }
+    requires rooted { HasRoot (M.size mem.old / 512) header.old.levels header.old.root }
     ensures out { (b : List ℕ) → M.reveals mem.old b → (records : List (List ℕ))
         → IsTree E K (M.size mem.old / 512) b records
         → IsHead (page_at b 0) header.old.count header.old.root header.old.top header.old.free header.old.levels
@@ -45,9 +43,7 @@ fn remove_in<M: FlatMem, const E: usize, const K: usize>(
     ensures few { header.new.levels ≤ 6 }
     ensures count { header.new.count ≡ header.old.count }
     ensures absent { (b : List ℕ) → M.reveals mem.old b → IfOk result (λ found. found ≡ false → M.reveals mem.new b) }
-    ensures kept { M.beside mem.old mem.new }
-    ensures cause { IfErr result (IfMemNotFull (M.accounted mem.old mem.new)) }
-    ensures cost { M.spent mem.new ≤ M.spent mem.old + 34 * M.cost }
+    ensures works { Works M.FlatMem (34 * M.cost) mem.old mem.new result }
 {
     let at = match descend::<M, E, K>(mem, header.root, header.levels, key, path, page) {
         Ok(at) => at,
@@ -70,14 +66,16 @@ fn remove_in<M: FlatMem, const E: usize, const K: usize>(
         }
     }
     if place == 0 {
-        match take_first::<M, E, K>(
-            mem, header, path, at, page, count, above, second, second_key,
-        ) {
+        match take_first::<M, E, K>(mem, header, path, at, page, count) {
             Ok(()) => return Ok(true),
             Err(error) => return Err(error),
         }
     }
-    match take_later::<M, E, K>(mem, header, path, at, page, count, place) {
+    let place = Place {
+        page: at,
+        index: place,
+    };
+    match take_later::<M, E, K>(mem, header, path, place, page, count) {
         Ok(()) => (),
         Err(error) => return Err(error),
     }
@@ -89,18 +87,14 @@ pub fn remove_key<M: FlatMem, const E: usize, const K: usize>(
     mem: &mut M,
     key: &[u8; K],
 ) -> Result<bool, TreeError<M::Error>>
-    requires widths { IsWidths E K }
-    requires small { M.size mem.old ≤ 2 ^ 27 }
-    requires some_pages { 9 * 512 ≤ M.size mem.old }
+    requires sized { IsRoomy E K (M.size mem.old) }
     ensures answer { (b : List ℕ) → M.reveals mem.old b → (records : List (List ℕ))
         → IsTree E K (M.size mem.old / 512) b records
         → MatchResult result (IsRemoved E K (M.size mem.old / 512) (M.reveals mem.new) b records key.now) FromMemory }
     ensures broken { (b : List ℕ) → M.reveals mem.old b
         → IfErr result (IfMalformed (Breaks E K (M.size mem.old / 512) b)) }
     ensures absent { (b : List ℕ) → M.reveals mem.old b → IfOk result (λ found. found ≡ false → M.reveals mem.new b) }
-    ensures kept { M.beside mem.old mem.new }
-    ensures cause { IfErr result (IfMemNotFull (M.accounted mem.old mem.new)) }
-    ensures cost { M.spent mem.new ≤ M.spent mem.old + 36 * M.cost }
+    ensures works { Works M.FlatMem (36 * M.cost) mem.old mem.new result }
 {
     let mut head = [0; PAGE_BYTES];
     let mut header = match read_header::<M, E, K>(mem, &mut head) {
@@ -115,19 +109,7 @@ pub fn remove_key<M: FlatMem, const E: usize, const K: usize>(
         index: [0; 7],
     };
     let mut page = [0; PAGE_BYTES];
-    let mut above = [0; PAGE_BYTES];
-    let mut second = [0; E];
-    let mut second_key = [0; K];
-    let found = match remove_in::<M, E, K>(
-        mem,
-        &mut header,
-        key,
-        &mut path,
-        &mut page,
-        &mut above,
-        &mut second,
-        &mut second_key,
-    ) {
+    let found = match remove_in::<M, E, K>(mem, &mut header, key, &mut path, &mut page) {
         Ok(found) => found,
         Err(error) => return Err(error),
     };

@@ -1,11 +1,13 @@
 // A record that is replaced by another of the same key.
-ghost use Rattle.std.specs.Prelude.{◌≡◌, ℕ, ◌+◌, ◌*◌, ◌/◌, ◌^◌, ◌<◌, ◌≤◌, List, take, false, IfOk, IfErr, MatchResult};
-ghost use Rattle.page_tree.specs.Page.{IsWidths, page_at};
+ghost use Rattle.std.specs.Prelude.{◌≡◌, ℕ, ◌*◌, ◌/◌, List, take, false, IfOk, IfErr, MatchResult};
+ghost use Rattle.page_tree.specs.Page.{page_at};
 ghost use Rattle.page_tree.specs.Tree.{IsTree};
-ghost use Rattle.page_tree.specs.Answer.{FromMemory, IfMemNotFull, CanBegin};
+ghost use Rattle.page_tree.specs.Answer.{FromMemory};
 ghost use Rattle.page_tree.specs.Climb.{IsHead};
 ghost use Rattle.page_tree.specs.Removed.{IsReplaced};
 ghost use Rattle.page_tree.specs.Broken.{Meets, Breaks, IfMalformed};
+ghost use Rattle.page_tree.specs.Bounds.{IsSized, IsRoomy, HasRoot};
+ghost use Rattle.page_tree.specs.Calls.{Works};
 
 use crate::edits::set_record;
 use crate::error::TreeError;
@@ -22,10 +24,8 @@ fn replace_in<M: FlatMem, const E: usize, const K: usize>(
     path: &mut Path,
     page: &mut Page,
 ) -> Result<bool, TreeError<M::Error>>
-    requires widths { IsWidths E K }
-    requires small { M.size mem.old ≤ 2 ^ 27 }
-    requires some { 1 ≤ header.levels }
-    requires begins { CanBegin (M.size mem.old / 512) header.levels header.root }
+    requires sized { IsSized E K (M.size mem.old) }
+    requires rooted { HasRoot (M.size mem.old / 512) header.levels header.root }
     requires same { key.now ≡ take K entry.now }
     ensures replaced { (b : List ℕ) → M.reveals mem.old b → (records : List (List ℕ))
         → IsTree E K (M.size mem.old / 512) b records
@@ -35,9 +35,7 @@ fn replace_in<M: FlatMem, const E: usize, const K: usize>(
     ensures absent { (b : List ℕ) → M.reveals mem.old b → IfOk result (λ found. found ≡ false → M.reveals mem.new b) }
     ensures broken { (b : List ℕ) → M.reveals mem.old b → Meets K b header.levels header.root
         → IfErr result (IfMalformed (Breaks E K (M.size mem.old / 512) b)) }
-    ensures kept { M.beside mem.old mem.new }
-    ensures cause { IfErr result (IfMemNotFull (M.accounted mem.old mem.new)) }
-    ensures cost { M.spent mem.new ≤ M.spent mem.old + 7 * M.cost }
+    ensures works { Works M.FlatMem (7 * M.cost) mem.old mem.new result }
 {
     let at = match descend::<M, E, K>(mem, header.root, header.levels, key, path, page) {
         Ok(at) => at,
@@ -59,9 +57,7 @@ pub fn replace_key<M: FlatMem, const E: usize, const K: usize>(
     mem: &mut M,
     entry: &[u8; E],
 ) -> Result<bool, TreeError<M::Error>>
-    requires widths { IsWidths E K }
-    requires small { M.size mem.old ≤ 2 ^ 27 }
-    requires some_pages { 9 * 512 ≤ M.size mem.old }
+    requires sized { IsRoomy E K (M.size mem.old) }
     ensures answer { (b : List ℕ) → M.reveals mem.old b → (records : List (List ℕ))
         → IsTree E K (M.size mem.old / 512) b records
         → MatchResult result (IsReplaced E K (M.size mem.old / 512) (M.reveals mem.new) b records entry.now)
@@ -69,9 +65,7 @@ pub fn replace_key<M: FlatMem, const E: usize, const K: usize>(
     ensures absent { (b : List ℕ) → M.reveals mem.old b → IfOk result (λ found. found ≡ false → M.reveals mem.new b) }
     ensures broken { (b : List ℕ) → M.reveals mem.old b
         → IfErr result (IfMalformed (Breaks E K (M.size mem.old / 512) b)) }
-    ensures kept { M.beside mem.old mem.new }
-    ensures cause { IfErr result (IfMemNotFull (M.accounted mem.old mem.new)) }
-    ensures cost { M.spent mem.new ≤ M.spent mem.old + 8 * M.cost }
+    ensures works { Works M.FlatMem (8 * M.cost) mem.old mem.new result }
 {
     let header = match read_numbers::<M, E, K>(mem) {
         Ok(header) => header,

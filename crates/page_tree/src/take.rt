@@ -1,14 +1,15 @@
 // Pages that are free, and the header.
-ghost use Rattle.std.specs.Prelude.{◌≡◌, ℕ, ◌+◌, ◌*◌, ◌/◌, ◌^◌, ◌<◌, ◌≤◌, List, [], length, IfOk, IfErr, MatchResult};
+ghost use Rattle.std.specs.Prelude.{◌≡◌, ℕ, ◌*◌, ◌/◌, ◌^◌, ◌<◌, ◌≤◌, List, [], length, IfOk, IfErr, MatchResult};
 ghost use Rattle.page_tree.specs.Page.{IsBlank};
 ghost use Rattle.page_tree.specs.Head.{with_header};
 ghost use Rattle.page_tree.specs.Tree.{Node, IsTree};
 ghost use Rattle.page_tree.specs.Put.{capacity_of};
 ghost use Rattle.page_tree.specs.Climb.{IsClosed};
-ghost use Rattle.page_tree.specs.Answer.{FromMemory, IfMemNotFull};
+ghost use Rattle.page_tree.specs.Answer.{FromMemory};
 ghost use Rattle.page_tree.specs.Broken.{StopsInsertion, IfMalformed};
 ghost use Rattle.page_tree.specs.Way.{IsUnderWay, IsTakenOn};
 ghost use Rattle.page_tree.specs.Open.{IsOpen, IsTaken, CanTake, IsFirstFree};
+ghost use Rattle.page_tree.specs.Calls.{Looks, Works, KeepsTree};
 
 use crate::error::TreeError;
 use crate::look::Header;
@@ -32,13 +33,8 @@ pub fn take_page<M: FlatMem>(mem: &mut M, header: &mut Header) -> Result<u32, Tr
         → IfOk result (λ page. IsFirstFree b header.old.free header.old.top page header.new.free header.new.top) }
     ensures inside { IfOk result (λ page. (1 ≤ page) × (page < M.size mem.old / 512)) }
     ensures free { IfOk result (λ _. header.new.free < M.size mem.old / 512) }
-    ensures count { header.new.count ≡ header.old.count }
-    ensures root { header.new.root ≡ header.old.root }
-    ensures levels { header.new.levels ≡ header.old.levels }
-    ensures unchanged { (b : List ℕ) → M.reveals mem.old b → M.reveals mem.new b }
-    ensures kept { M.beside mem.old mem.new }
-    ensures cause { IfErr result (IfMemNotFull (M.accounted mem.old mem.new)) }
-    ensures cost { M.spent mem.new ≤ M.spent mem.old + M.cost }
+    ensures keeps { KeepsTree header.old header.new }
+    ensures looks { Looks M.FlatMem M.cost mem.old mem.new result }
 {
     let pages = (mem.len() / PAGE_BYTES as u64) as u32;
     let first = header.free;
@@ -97,9 +93,7 @@ pub fn finish<M: FlatMem>(
         → header.count ≡ 0 → header.top < M.size mem.old / 512
         → MatchResult result (λ _. (x : List ℕ) × M.reveals mem.new x × IsTree e k (M.size mem.old / 512) x [])
         FromMemory }
-    ensures kept { M.beside mem.old mem.new }
-    ensures cause { IfErr result (IfMemNotFull (M.accounted mem.old mem.new)) }
-    ensures cost { M.spent mem.new ≤ M.spent mem.old + M.cost }
+    ensures works { Works M.FlatMem M.cost mem.old mem.new result }
 {
     put_fields(page, header);
     match store(mem, 0, page) {
@@ -117,9 +111,7 @@ pub fn begin<M: FlatMem, const E: usize, const K: usize>(
         → MatchResult result (λ _. (x : List ℕ) × M.reveals mem.new x × IsTree E K (M.size mem.old / 512) x [])
         FromMemory }
     ensures memory { IfErr result FromMemory }
-    ensures kept { M.beside mem.old mem.new }
-    ensures cause { IfErr result (IfMemNotFull (M.accounted mem.old mem.new)) }
-    ensures cost { M.spent mem.new ≤ M.spent mem.old + M.cost }
+    ensures works { Works M.FlatMem M.cost mem.old mem.new result }
 {
     let mut page = [0; PAGE_BYTES];
     write_empty(mem, &mut page)
@@ -131,9 +123,7 @@ fn write_empty<M: FlatMem>(mem: &mut M, page: &mut Page) -> Result<(), TreeError
         → MatchResult result (λ _. (x : List ℕ) × M.reveals mem.new x × IsTree e k (M.size mem.old / 512) x [])
         FromMemory }
     ensures memory { IfErr result FromMemory }
-    ensures kept { M.beside mem.old mem.new }
-    ensures cause { IfErr result (IfMemNotFull (M.accounted mem.old mem.new)) }
-    ensures cost { M.spent mem.new ≤ M.spent mem.old + M.cost }
+    ensures works { Works M.FlatMem M.cost mem.old mem.new result }
 {
     put_fields(
         page,

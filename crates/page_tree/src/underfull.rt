@@ -1,15 +1,17 @@
 // A removal on its way up: pages that may be underfull.
-ghost use Rattle.std.specs.Prelude.{◌≡◌, ℕ, ◌+◌, ◌-◌, ◌*◌, ◌/◌, ◌^◌, ◌<◌, ◌≤◌, List, get_or, true, false, IfOk, IfErr, OnOk, MatchResult};
+ghost use Rattle.std.specs.Prelude.{◌≡◌, ℕ, ◌+◌, ◌*◌, ◌/◌, ◌<◌, ◌≤◌, List, get_or, true, false, IfErr, OnOk, MatchResult};
 ghost use Rattle.page_tree.specs.Page.{IsWidths, filled, link_at};
 ghost use Rattle.page_tree.specs.Broken.{Meets, Breaks, IfMalformed};
 ghost use Rattle.page_tree.specs.Met.{AvoidsHeader};
 ghost use Rattle.page_tree.specs.Rebalancing.{IsRebalancing, IsBesideOf, IsMetAgain, RebalancesOn};
-ghost use Rattle.page_tree.specs.Answer.{FromMemory, IfMemNotFull};
+ghost use Rattle.page_tree.specs.Answer.{FromMemory};
 ghost use Rattle.page_tree.specs.Climb.{RevealsClosed};
 ghost use Rattle.page_tree.specs.Neighbours.{IsUnderfull, IsAmple};
 ghost use Rattle.page_tree.specs.Underfull.{IsPending, IsSecond, IsRebalanced, IsGiven};
+ghost use Rattle.page_tree.specs.Bounds.{IsSized, IsBelowRoot, IsWay};
+ghost use Rattle.page_tree.specs.Calls.{Works, LowersTree, GoesUp};
 
-use crate::beside::{load_above, rebalance_beside};
+use crate::beside::{Child, load_above, rebalance_beside};
 use crate::edits::{remove_child, set_key};
 use crate::error::TreeError;
 use crate::look::{Header, Path};
@@ -79,9 +81,7 @@ fn drop_root<M: FlatMem, const K: usize>(
     ensures count { header.new.count ≡ header.old.count }
     ensures top { header.new.top ≡ header.old.top }
     ensures memory { IfErr result FromMemory }
-    ensures kept { M.beside mem.old mem.new }
-    ensures cause { IfErr result (IfMemNotFull (M.accounted mem.old mem.new)) }
-    ensures cost { M.spent mem.new ≤ M.spent mem.old + M.cost }
+    ensures works { Works M.FlatMem M.cost mem.old mem.new result }
 {
     header.root = link_of::<K>(page, 0);
     header.levels -= 1;
@@ -99,15 +99,9 @@ fn rebalance_underfull<M: FlatMem, const E: usize, const K: usize>(
     level: u32,
     at: &mut u32,
     page: &mut Page,
-    above: &mut Page,
-    other: &mut Page,
-    key: &mut [u8; K],
 ) -> Result<bool, TreeError<M::Error>>
-    requires widths { IsWidths E K }
-    requires small { M.size mem.old ≤ 2 ^ 27 }
-    requires some { 1 ≤ level }
-    requires under { level < header.old.levels }
-    requires few { header.old.levels ≤ 6 }
+    requires sized { IsSized E K (M.size mem.old) }
+    requires below { IsBelowRoot header.old.levels level }
     requires underfull { IsUnderfull E K level (filled page.old) }
     requires inside { at.old < M.size mem.old / 512 }
     requires path { (l : ℕ) → 1 < l → l ≤ header.old.levels → get_or path.now.pages l 0 < M.size mem.old / 512 }
@@ -125,49 +119,48 @@ fn rebalance_underfull<M: FlatMem, const E: usize, const K: usize>(
         (RebalancesOn K (M.reveals mem.new) b header.old.levels (level + 1) root path.now.pages path.now.index)
         (IfMalformed (Breaks E K (M.size mem.old / 512) b)) }
     ensures named { AvoidsHeader header.old.levels path.now.pages → IfErr result (IfMalformed (λ page. 1 ≤ page)) }
-    ensures up { IfOk result (λ done. done ≡ false → at.new ≡ get_or path.now.pages (level + 1) 0) }
-    ensures same_levels { IfOk result (λ done. done ≡ false → header.new.levels ≡ header.old.levels) }
-    ensures same_root { IfOk result (λ done. done ≡ false → header.new.root ≡ header.old.root) }
-    ensures levels { header.new.levels ≤ header.old.levels }
-    ensures some_levels { 1 ≤ header.new.levels }
-    ensures count { header.new.count ≡ header.old.count }
-    ensures inside { IfOk result (λ _. at.new < M.size mem.old / 512) }
-    ensures kept { M.beside mem.old mem.new }
-    ensures cause { IfErr result (IfMemNotFull (M.accounted mem.old mem.new)) }
-    ensures cost { M.spent mem.new ≤ M.spent mem.old + 5 * M.cost }
+    ensures goes { GoesUp (M.size mem.old / 512) level path.now.pages header.old header.new at.new result }
+    ensures works { Works M.FlatMem (5 * M.cost) mem.old mem.new result }
 {
-    let up = match load_above::<M, K>(mem, path, level, header.levels, above) {
+    let mut above = [0; PAGE_BYTES];
+    let mut key = [0; K];
+    let up = match load_above::<M, K>(mem, path, level, header.levels, &mut above) {
         Ok(up) => up,
         Err(error) => return Err(error),
     };
-    let count = filled_of(above);
+    let count = filled_of(&above);
     let index = path.index[level as usize + 1] as usize;
     let slot = second_of(index);
-    let beside = link_of::<K>(above, beside_of(index));
+    let beside = link_of::<K>(&above, beside_of(index));
     match met_again(path, level, header.levels, *at, beside) {
         Some(page) => return Err(TreeError::Malformed { page }),
         None => (),
     }
-    let joined = match rebalance_beside::<M, E, K>(
-        mem, header, level, index, slot, *at, page, up, above, other, key,
-    ) {
+    let child = Child {
+        level,
+        at: *at,
+        index,
+        slot,
+        up,
+    };
+    let joined = match rebalance_beside::<M, E, K>(mem, header, child, page, &above, &mut key) {
         Ok(joined) => joined,
         Err(error) => return Err(error),
     };
     *at = up;
     if !joined {
-        set_key(above, slot - 1, key);
-        *page = *above;
+        set_key(&mut above, slot - 1, &key);
+        *page = above;
         return Ok(false);
     }
     if count == 1 {
-        match drop_root::<M, K>(mem, header, up, above) {
+        match drop_root::<M, K>(mem, header, up, &above) {
             Ok(()) => return Ok(true),
             Err(error) => return Err(error),
         }
     }
-    remove_child::<K>(above, count, slot - 1, slot);
-    *page = *above;
+    remove_child::<K>(&mut above, count, slot - 1, slot);
+    *page = above;
     Ok(false)
 }
 
@@ -180,11 +173,8 @@ fn rebalance_up<M: FlatMem, const E: usize, const K: usize>(
     at: &mut u32,
     page: &mut Page,
 ) -> Result<bool, TreeError<M::Error>>
-    requires widths { IsWidths E K }
-    requires small { M.size mem.old ≤ 2 ^ 27 }
-    requires some { 1 ≤ level }
-    requires under { level < header.old.levels }
-    requires few { header.old.levels ≤ 6 }
+    requires sized { IsSized E K (M.size mem.old) }
+    requires below { IsBelowRoot header.old.levels level }
     requires inside { at.old < M.size mem.old / 512 }
     requires path { (l : ℕ) → 1 < l → l ≤ header.old.levels → get_or path.now.pages l 0 < M.size mem.old / 512 }
     ensures rebalanced { (b : List ℕ) → M.reveals mem.old b → (records : List (List ℕ))
@@ -201,16 +191,8 @@ fn rebalance_up<M: FlatMem, const E: usize, const K: usize>(
         (RebalancesOn K (M.reveals mem.new) b header.old.levels (level + 1) root path.now.pages path.now.index)
         (IfMalformed (Breaks E K (M.size mem.old / 512) b)) }
     ensures named { AvoidsHeader header.old.levels path.now.pages → IfErr result (IfMalformed (λ page. 1 ≤ page)) }
-    ensures up { IfOk result (λ done. done ≡ false → at.new ≡ get_or path.now.pages (level + 1) 0) }
-    ensures same_levels { IfOk result (λ done. done ≡ false → header.new.levels ≡ header.old.levels) }
-    ensures same_root { IfOk result (λ done. done ≡ false → header.new.root ≡ header.old.root) }
-    ensures levels { header.new.levels ≤ header.old.levels }
-    ensures some_levels { 1 ≤ header.new.levels }
-    ensures count { header.new.count ≡ header.old.count }
-    ensures inside { IfOk result (λ _. at.new < M.size mem.old / 512) }
-    ensures kept { M.beside mem.old mem.new }
-    ensures cause { IfErr result (IfMemNotFull (M.accounted mem.old mem.new)) }
-    ensures cost { M.spent mem.new ≤ M.spent mem.old + 5 * M.cost }
+    ensures goes { GoesUp (M.size mem.old / 512) level path.now.pages header.old header.new at.new result }
+    ensures works { Works M.FlatMem (5 * M.cost) mem.old mem.new result }
 {
     if is_ample::<E, K>(level, page) {
         match store(mem, *at, page) {
@@ -218,12 +200,7 @@ fn rebalance_up<M: FlatMem, const E: usize, const K: usize>(
             Err(error) => return Err(error),
         }
     }
-    let mut above = [0; PAGE_BYTES];
-    let mut other = [0; PAGE_BYTES];
-    let mut key = [0; K];
-    match rebalance_underfull::<M, E, K>(
-        mem, header, path, level, at, page, &mut above, &mut other, &mut key,
-    ) {
+    match rebalance_underfull::<M, E, K>(mem, header, path, level, at, page) {
         Ok(done) => Ok(done),
         Err(error) => Err(error),
     }
@@ -237,12 +214,9 @@ pub fn rebalance<M: FlatMem, const E: usize, const K: usize>(
     at: u32,
     page: &mut Page,
 ) -> Result<(), TreeError<M::Error>>
-    requires widths { IsWidths E K }
-    requires small { M.size mem.old ≤ 2 ^ 27 }
-    requires some { 1 ≤ header.old.levels }
-    requires few { header.old.levels ≤ 6 }
+    requires sized { IsSized E K (M.size mem.old) }
+    requires way { IsWay (M.size mem.old / 512) header.old.levels path.now.pages }
     requires inside { at < M.size mem.old / 512 }
-    requires path { (l : ℕ) → 1 < l → l ≤ header.old.levels → get_or path.now.pages l 0 < M.size mem.old / 512 }
     ensures rebalanced { (b : List ℕ) → M.reveals mem.old b → (records : List (List ℕ))
         → IsPending E K (M.size mem.old / 512) b records header.old.levels 1 path.now.pages path.now.index at page.old
         header.old.root header.old.free header.old.top
@@ -255,11 +229,8 @@ pub fn rebalance<M: FlatMem, const E: usize, const K: usize>(
         → IsRebalancing K b c header.old.levels 1 root path.now.pages path.now.index → Meets K b 1 at
         → IfErr result (IfMalformed (Breaks E K (M.size mem.old / 512) b)) }
     ensures named { AvoidsHeader header.old.levels path.now.pages → IfErr result (IfMalformed (λ page. 1 ≤ page)) }
-    ensures levels { header.new.levels ≤ header.old.levels }
-    ensures count { header.new.count ≡ header.old.count }
-    ensures kept { M.beside mem.old mem.new }
-    ensures cause { IfErr result (IfMemNotFull (M.accounted mem.old mem.new)) }
-    ensures cost { M.spent mem.new ≤ M.spent mem.old + 26 * M.cost }
+    ensures lowers { LowersTree header.old header.new }
+    ensures works { Works M.FlatMem (26 * M.cost) mem.old mem.new result }
 {
     let mut level = 1;
     let mut at = at;

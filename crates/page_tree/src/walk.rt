@@ -1,12 +1,14 @@
 // The way from one leaf to the next.
-ghost use Rattle.std.specs.Prelude.{◌≡◌, ℕ, ◌+◌, ◌-◌, ◌*◌, ◌/◌, ◌^◌, ◌<◌, ◌≤◌, List, length, get_or, IfOk, IfErr, IfSome, OnOk, MatchResult};
-ghost use Rattle.page_tree.specs.Page.{IsWidths, page_at, filled};
+ghost use Rattle.std.specs.Prelude.{◌≡◌, ℕ, ◌+◌, ◌*◌, ◌/◌, ◌^◌, ◌<◌, ◌≤◌, List, length, get_or, IfOk, IfErr, IfSome, OnOk, MatchResult};
+ghost use Rattle.page_tree.specs.Page.{page_at, filled};
 ghost use Rattle.page_tree.specs.Tree.{Node, node_at, IsRooted};
 ghost use Rattle.page_tree.specs.Path.{IsPath, IsLed, IsLedOn, Turns, leaf_under};
-ghost use Rattle.page_tree.specs.Answer.{FromMemory, IfMemNotFull};
+ghost use Rattle.page_tree.specs.Answer.{FromMemory};
 ghost use Rattle.page_tree.specs.Broken.{IsInnerForm, IsLeafForm, Meets, Breaks, IfMalformed};
 ghost use Rattle.page_tree.specs.Met.{IsMetPath, AvoidsHeader};
 ghost use Rattle.page_tree.specs.Walked.{IsThread, IsLedDown, IsLastUntil, IsWalked, IsWalkedOn};
+ghost use Rattle.page_tree.specs.Bounds.{IsSized, IsOnLevel, IsWay};
+ghost use Rattle.page_tree.specs.Calls.{Looks};
 
 use crate::error::TreeError;
 use crate::look::Path;
@@ -27,11 +29,7 @@ pub fn read_inner<M: FlatMem, const K: usize>(
     ensures broken { (e l pages : ℕ) (b : List ℕ) → M.reveals mem.old b → 1 < l → Meets K b l at
         → IfErr result (IfMalformed (Breaks e K pages b)) }
     ensures named { IfErr result (IfMalformed (λ page. page ≡ at)) }
-    ensures unchanged { (b : List ℕ) → M.reveals mem.old b → M.reveals mem.new b }
-    ensures kept { M.beside mem.old mem.new }
-    ensures looked { M.only_reads mem.old mem.new }
-    ensures cause { IfErr result (IfMemNotFull (M.accounted mem.old mem.new)) }
-    ensures cost { M.spent mem.new ≤ M.spent mem.old + M.cost }
+    ensures looks { Looks M.FlatMem M.cost mem.old mem.new result }
 {
     match load(mem, at, page) {
         Ok(()) => (),
@@ -58,11 +56,7 @@ pub fn read_leaf<M: FlatMem, const E: usize, const K: usize>(
     ensures broken { (pages : ℕ) (b : List ℕ) → M.reveals mem.old b → Meets K b 1 at
         → IfErr result (IfMalformed (Breaks E K pages b)) }
     ensures named { IfErr result (IfMalformed (λ page. page ≡ at)) }
-    ensures unchanged { (b : List ℕ) → M.reveals mem.old b → M.reveals mem.new b }
-    ensures kept { M.beside mem.old mem.new }
-    ensures looked { M.only_reads mem.old mem.new }
-    ensures cause { IfErr result (IfMemNotFull (M.accounted mem.old mem.new)) }
-    ensures cost { M.spent mem.new ≤ M.spent mem.old + M.cost }
+    ensures looks { Looks M.FlatMem M.cost mem.old mem.new result }
 {
     match load(mem, at, page) {
         Ok(()) => (),
@@ -84,11 +78,8 @@ pub fn go_down<M: FlatMem, const E: usize, const K: usize>(
     path: &mut Path,
     page: &mut Page,
 ) -> Result<u32, TreeError<M::Error>>
-    requires widths { IsWidths E K }
-    requires small { M.size mem.old ≤ 2 ^ 27 }
-    requires some { 1 ≤ level }
-    requires most { level ≤ 6 }
-    requires inside { at < M.size mem.old / 512 }
+    requires sized { IsSized E K (M.size mem.old) }
+    requires place { IsOnLevel (M.size mem.old / 512) level at }
     ensures leaf { (b : List ℕ) → M.reveals mem.old b
         → (records : List (List ℕ)) (levels root : ℕ) (nodes : ℕ → List Node) (home : ℕ → ℕ)
         → IsRooted E K (M.size mem.old / 512) b records levels root nodes → level ≤ levels
@@ -114,11 +105,7 @@ pub fn go_down<M: FlatMem, const E: usize, const K: usize>(
     ensures inside { IfOk result (λ leaf. leaf < M.size mem.old / 512) }
     ensures form { IfOk result (λ _. IsLeafForm E page.new) }
     ensures read { (b : List ℕ) → M.reveals mem.old b → IfOk result (λ leaf. page.new ≡ page_at b leaf) }
-    ensures unchanged { (b : List ℕ) → M.reveals mem.old b → M.reveals mem.new b }
-    ensures kept { M.beside mem.old mem.new }
-    ensures looked { M.only_reads mem.old mem.new }
-    ensures cause { IfErr result (IfMemNotFull (M.accounted mem.old mem.new)) }
-    ensures cost { M.spent mem.new ≤ M.spent mem.old + level * M.cost }
+    ensures looks { Looks M.FlatMem (level * M.cost) mem.old mem.new result }
 {
     let pages = (mem.len() / PAGE_BYTES as u64) as u32;
     let mut at = at;
@@ -158,9 +145,7 @@ fn turning_level<M: FlatMem, const K: usize>(
 ) -> Result<Option<u32>, TreeError<M::Error>>
     requires width { K ≤ 12 }
     requires small { M.size mem.old ≤ 2 ^ 27 }
-    requires some { 1 ≤ levels }
-    requires most { levels ≤ 6 }
-    requires path { (n : ℕ) → 1 < n → n ≤ levels → get_or path.now.pages n 0 < M.size mem.old / 512 }
+    requires way { IsWay (M.size mem.old / 512) levels path.now.pages }
     ensures turn { (b : List ℕ) → M.reveals mem.old b
         → (e : ℕ) (records : List (List ℕ)) (root at : ℕ) (nodes : ℕ → List Node) (home : ℕ → ℕ)
         → IsRooted e K (M.size mem.old / 512) b records levels root nodes
@@ -177,11 +162,7 @@ fn turning_level<M: FlatMem, const K: usize>(
         → IsMetPath K b levels 1 root path.now.pages path.now.index
         → IfOk result (IsLastUntil b levels path.now.pages path.now.index) }
     ensures form { IfOk result (λ found. IfSome found (λ level. (2 ≤ level) × (level ≤ levels))) }
-    ensures unchanged { (b : List ℕ) → M.reveals mem.old b → M.reveals mem.new b }
-    ensures kept { M.beside mem.old mem.new }
-    ensures looked { M.only_reads mem.old mem.new }
-    ensures cause { IfErr result (IfMemNotFull (M.accounted mem.old mem.new)) }
-    ensures cost { M.spent mem.new ≤ M.spent mem.old + 5 * M.cost }
+    ensures looks { Looks M.FlatMem (5 * M.cost) mem.old mem.new result }
 {
     let mut level = 2;
     'up: while level <= levels {
@@ -206,11 +187,8 @@ pub fn next_leaf<M: FlatMem, const E: usize, const K: usize>(
     path: &mut Path,
     page: &mut Page,
 ) -> Result<Option<u32>, TreeError<M::Error>>
-    requires widths { IsWidths E K }
-    requires small { M.size mem.old ≤ 2 ^ 27 }
-    requires some { 1 ≤ levels }
-    requires most { levels ≤ 6 }
-    requires path { (n : ℕ) → 1 < n → n ≤ levels → get_or path.old.pages n 0 < M.size mem.old / 512 }
+    requires sized { IsSized E K (M.size mem.old) }
+    requires way { IsWay (M.size mem.old / 512) levels path.old.pages }
     ensures leaf { (b : List ℕ) → M.reveals mem.old b
         → (records : List (List ℕ)) (root at : ℕ) (nodes : ℕ → List Node) (home : ℕ → ℕ)
         → IsRooted E K (M.size mem.old / 512) b records levels root nodes
@@ -231,11 +209,7 @@ pub fn next_leaf<M: FlatMem, const E: usize, const K: usize>(
     ensures form { IfOk result (λ found. IfSome found (λ _. IsLeafForm E page.new)) }
     ensures read { (b : List ℕ) → M.reveals mem.old b
         → IfOk result (λ found. IfSome found (λ leaf. page.new ≡ page_at b leaf)) }
-    ensures unchanged { (b : List ℕ) → M.reveals mem.old b → M.reveals mem.new b }
-    ensures kept { M.beside mem.old mem.new }
-    ensures looked { M.only_reads mem.old mem.new }
-    ensures cause { IfErr result (IfMemNotFull (M.accounted mem.old mem.new)) }
-    ensures cost { M.spent mem.new ≤ M.spent mem.old + 11 * M.cost }
+    ensures looks { Looks M.FlatMem (11 * M.cost) mem.old mem.new result }
 {
     let found = match turning_level::<M, K>(mem, levels, path, page) {
         Ok(found) => found,

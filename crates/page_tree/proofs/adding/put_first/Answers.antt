@@ -5,11 +5,11 @@ use Rattle.page_tree.proofs.adding.put_first.Goals as goal
 pub returns-clause-put : goal.returns-clause-put
 returns-clause-put g c = λ b h records tree is.
     let size : 512 * (g.M.FlatMem.size c.args.mem.now / 512) ≤ length b = omega (arith, g.met.M.FlatMem.revealed_length c.args.mem.now b h) in
-    let nine : 9 ≤ g.M.FlatMem.size c.args.mem.now / 512 = omega (arith, c.requires.some_pages) in
+    let nine : 9 ≤ g.M.FlatMem.size c.args.mem.now / 512 = omega (arith, c.requires.sized.some_pages) in
     let opened = empty_open g.row.E g.row.K (g.M.FlatMem.size c.args.mem.now / 512) b records c.args.header.now.count c.args.header.now.root c.args.header.now.top c.args.header.now.free c.args.header.now.levels tree is c.requires.none nine in
     first_put g.row.E g.row.K (g.M.FlatMem.size c.args.mem.now / 512) b records c.args.header.now.count c.args.header.now.root c.args.header.now.top c.args.header.now.free c.args.header.now.levels tree is c.requires.none nine size
     c.in-Ok.new c.take_page.new.header.top c.take_page.new.header.free (c.in-Ok.ensures.taken b h tree.free opened.3) c.in-Ok.ensures.inside.1 c.args.entry.now c.make_leaf.new.page c.make_leaf.array_long (c.make_leaf.ensures g.row.K)
-    (g.M.FlatMem.reveals c.store.new.mem) (c.in-Ok-store.ensures.written b (c.take_page.ensures.unchanged b h))
+    (g.M.FlatMem.reveals c.store.new.mem) (c.in-Ok-store.ensures.written b (c.take_page.ensures.looks.unchanged b h))
 
 pub returns-in-Err-clause-on : goal.returns-in-Err-clause-on
 returns-in-Err-clause-on g c = λ b h way. c.in-Err.ensures.on g.row.E g.row.K 0 0 b b h (omega arith) way

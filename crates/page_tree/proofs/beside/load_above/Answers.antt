@@ -9,8 +9,8 @@ use Rattle.page_tree.proofs.beside.load_above.Goals.{then-above-ne2-via-then-abo
 pub returns-then-above-ne2-clause-well : goal.returns-then-above-ne2-clause-well
 returns-then-above-ne2-clause-well g c = λ e b h records at page root first top pending.
     let read : c.load.new.page ≡ page_at b (get_or c.args.path.now.pages (c.args.level + 1) 0) = c.in-Ok.ensures.read b h in
-    let inner = above_inner e g.row.K (g.M.FlatMem.size c.args.mem.now / 512) b records c.args.levels c.args.level c.args.path.now.pages c.args.path.now.index at page root first top pending c.requires.some c.requires.under c.load.new.page read in
-    let index = above_index e g.row.K (g.M.FlatMem.size c.args.mem.now / 512) b records c.args.levels c.args.level c.args.path.now.pages c.args.path.now.index at page root first top pending c.requires.some c.requires.under c.load.new.page read in
+    let inner = above_inner e g.row.K (g.M.FlatMem.size c.args.mem.now / 512) b records c.args.levels c.args.level c.args.path.now.pages c.args.path.now.index at page root first top pending c.requires.below.some c.requires.below.under c.load.new.page read in
+    let index = above_index e g.row.K (g.M.FlatMem.size c.args.mem.now / 512) b records c.args.levels c.args.level c.args.path.now.pages c.args.path.now.index at page root first top pending c.requires.below.some c.requires.below.under c.load.new.page read in
     elim c.then-above-ne2.branch [
       | then-above-ne2-via-then-above-ne2 w ↦ absurd (omega (arith, w.if-above-ne2.true, inner.kind))
       | then-above-ne2-via-else-above-ne2+then-count-eq0 w ↦ absurd (omega (arith, w.if-count-eq0.true, inner.count, inner.some, c.filled_of-count.ensures))
@@ -21,13 +21,13 @@ returns-then-above-ne2-clause-well g c = λ e b h records at page root first top
 pub returns-then-level-levels-clause-well : goal.returns-then-level-levels-clause-well
 returns-then-level-levels-clause-well g c = λ e b h records at page root first top pending.
     let read : c.load.new.page ≡ page_at b (get_or c.args.path.now.pages (c.args.level + 1) 0) = c.in-Ok.ensures.read b h in
-    let full = above_full e g.row.K (g.M.FlatMem.size c.args.mem.now / 512) b records c.args.levels c.args.level c.args.path.now.pages c.args.path.now.index at page root first top pending c.requires.some c.requires.under c.load.new.page read
+    let full = above_full e g.row.K (g.M.FlatMem.size c.args.mem.now / 512) b records c.args.levels c.args.level c.args.path.now.pages c.args.path.now.index at page root first top pending c.requires.below.some c.requires.below.under c.load.new.page read
     (omega (arith, c.if-level-levels.true)) in
-    omega (arith, full, (links_fit g.row.K c.requires.some_key c.requires.key_most).2, c.if-count-eq1.true, c.filled_of-count.ensures)
+    omega (arith, full, (links_fit g.row.K c.requires.sized.some_key c.requires.sized.key_most).2, c.if-count-eq1.true, c.filled_of-count.ensures)
 
 pub returns-then-above-ne2-clause-broken : goal.returns-then-above-ne2-clause-broken
 returns-then-above-ne2-clause-broken g c = λ e root b d h rebalancing.
-    let form = above_form g.row.K b d c.args.levels c.args.level root c.args.path.now.pages c.args.path.now.index rebalancing c.requires.some c.requires.under (get_or c.args.path.now.pages (c.args.level + 1) 0) refl c.load.new.page (c.in-Ok.ensures.read d h) in
+    let form = above_form g.row.K b d c.args.levels c.args.level root c.args.path.now.pages c.args.path.now.index rebalancing c.requires.below.some c.requires.below.under (get_or c.args.path.now.pages (c.args.level + 1) 0) refl c.load.new.page (c.in-Ok.ensures.read d h) in
     elim c.then-above-ne2.branch [
       | then-above-ne2-via-then-above-ne2 w ↦ absurd (w.if-above-ne2.true form.0.kind)
       | then-above-ne2-via-else-above-ne2+then-count-eq0 w ↦ absurd (omega (arith, w.if-count-eq0.true, form.0.some, c.filled_of-count.ensures))
@@ -37,9 +37,9 @@ returns-then-above-ne2-clause-broken g c = λ e root b d h rebalancing.
 
 pub returns-then-level-levels-clause-broken : goal.returns-then-level-levels-clause-broken
 returns-then-level-levels-clause-broken g c = λ e root b d h rebalancing.
-    above_underfull g.row.K b d c.args.levels c.args.level root c.args.path.now.pages c.args.path.now.index rebalancing c.requires.some c.requires.under (get_or c.args.path.now.pages (c.args.level + 1) 0) refl c.load.new.page (c.in-Ok.ensures.read d h)
-    e (g.M.FlatMem.size c.args.mem.now / 512) (omega (arith, c.if-count-eq1.true, c.filled_of-count.ensures)) c.if-level-levels.true (links_fit g.row.K c.requires.some_key c.requires.key_most).2
+    above_underfull g.row.K b d c.args.levels c.args.level root c.args.path.now.pages c.args.path.now.index rebalancing c.requires.below.some c.requires.below.under (get_or c.args.path.now.pages (c.args.level + 1) 0) refl c.load.new.page (c.in-Ok.ensures.read d h)
+    e (g.M.FlatMem.size c.args.mem.now / 512) (omega (arith, c.if-count-eq1.true, c.filled_of-count.ensures)) c.if-level-levels.true (links_fit g.row.K c.requires.sized.some_key c.requires.sized.key_most).2
 
 pub returns-clause-like : goal.returns-clause-like
 returns-clause-like g c = λ root b d h rebalancing.
-    above_like g.row.K b d c.args.levels c.args.level root c.args.path.now.pages c.args.path.now.index rebalancing c.requires.some c.requires.under (get_or c.args.path.now.pages (c.args.level + 1) 0) refl c.load.new.page (c.in-Ok.ensures.read d h)
+    above_like g.row.K b d c.args.levels c.args.level root c.args.path.now.pages c.args.path.now.index rebalancing c.requires.below.some c.requires.below.under (get_or c.args.path.now.pages (c.args.level + 1) 0) refl c.load.new.page (c.in-Ok.ensures.read d h)

@@ -15,7 +15,7 @@ pub leaves-preserved : goal.leaves-preserved
 leaves-preserved g c = record {
   led = λ b h records nodes rooted start.
       let was = c.leaves.invariant.led b h records nodes rooted start in
-      let some : 0 < c.args.header.levels = omega (arith, c.requires.some) in
+      let some : 0 < c.args.header.levels = omega (arith, c.requires.rooted.some) in
       let revealed = c.leaves.invariant.unchanged b h in
       let rooted_now = subst (λ (s : ℕ). IsRooted g.row.E g.row.K (s / 512) b records c.args.header.levels c.args.header.root nodes) (g.met.M.FlatMem.same_size _ _ c.leaves.invariant.kept) rooted in
       let on = rw c.in-Some.is at (c.in-Ok-next_leaf.ensures.leaf b revealed records c.args.header.root c.leaves.at nodes was.0.home rooted_now was.0.path) in
@@ -40,22 +40,22 @@ leaves-preserved g c = record {
   few = omega (arith, c.leaves-test.true);
   form = rw c.in-Some.is at c.in-Ok-next_leaf.ensures.form;
   read = λ b h read. rw c.in-Some.is at (c.in-Ok-next_leaf.ensures.read b (c.leaves.invariant.unchanged b h));
-  unchanged = λ b h. c.next_leaf.ensures.unchanged b (c.leaves.invariant.unchanged b h);
-  kept = g.met.M.FlatMem.beside_through _ _ _ c.leaves.invariant.kept c.next_leaf.ensures.kept;
-  looked = g.met.M.FlatMem.only_reads_through _ _ _ c.leaves.invariant.looked c.next_leaf.ensures.looked;
-  cost = walks _ _ _ g.M.FlatMem.cost c.leaves.passed c.leaves.invariant.cost c.next_leaf.ensures.cost;
+  unchanged = λ b h. c.next_leaf.ensures.looks.unchanged b (c.leaves.invariant.unchanged b h);
+  kept = g.met.M.FlatMem.beside_through _ _ _ c.leaves.invariant.kept c.next_leaf.ensures.looks.kept;
+  looked = g.met.M.FlatMem.only_reads_through _ _ _ c.leaves.invariant.looked c.next_leaf.ensures.looks.looked;
+  cost = walks _ _ _ g.M.FlatMem.cost c.leaves.passed c.leaves.invariant.cost c.next_leaf.ensures.looks.cost;
 }
 
 pub returns-in-Err-clause-placed : goal.returns-in-Err-clause-placed
 returns-in-Err-clause-placed g c = λ b h records here below. c.in-Err.ensures.leaf b h records here.nodes here.rooted
 
 pub returns-in-Err-clause-broken : goal.returns-in-Err-clause-broken
-returns-in-Err-clause-broken g c = λ b h is less. c.in-Err.ensures.walked b h (root_met g.row.K b (g.M.FlatMem.size c.args.mem.now) c.args.header.levels c.args.header.root (g.met.M.FlatMem.revealed_length c.args.mem.now b h) c.requires.begins c.requires.some (sym is.levels_is) (sym is.root_is))
+returns-in-Err-clause-broken g c = λ b h is less. c.in-Err.ensures.walked b h (root_met g.row.K b (g.M.FlatMem.size c.args.mem.now) c.args.header.levels c.args.header.root (g.met.M.FlatMem.revealed_length c.args.mem.now b h) c.requires.rooted.begins c.requires.rooted.some (sym is.levels_is) (sym is.root_is))
 
 pub returns-then-rest-count-clause-placed : goal.returns-then-rest-count-clause-placed
 returns-then-rest-count-clause-placed g c = λ b h records here below.
-    let revealed = c.first_leaf.ensures.unchanged b h in
-    let size = g.met.M.FlatMem.same_size _ _ c.first_leaf.ensures.kept in
+    let revealed = c.first_leaf.ensures.looks.unchanged b h in
+    let size = g.met.M.FlatMem.same_size _ _ c.first_leaf.ensures.looks.kept in
     let was = c.leaves.invariant.led b revealed records here.nodes (subst (λ (s : ℕ). IsRooted g.row.E g.row.K (s / 512) b records c.args.header.levels c.args.header.root here.nodes) size here.rooted) (c.in-Ok.ensures.leaf b h records here.nodes here.rooted) in
     record {
       home = was.0.home;
@@ -67,8 +67,8 @@ returns-then-rest-count-clause-placed g c = λ b h records here below.
 
 pub returns-in-Err-next_leaf-clause-placed : goal.returns-in-Err-next_leaf-clause-placed
 returns-in-Err-next_leaf-clause-placed g c = λ b h records here below.
-    let revealed = c.first_leaf.ensures.unchanged b h in
-    let size = g.met.M.FlatMem.same_size _ _ c.first_leaf.ensures.kept in
+    let revealed = c.first_leaf.ensures.looks.unchanged b h in
+    let size = g.met.M.FlatMem.same_size _ _ c.first_leaf.ensures.looks.kept in
     let size_now = g.met.M.FlatMem.same_size _ _ c.leaves.invariant.kept in
     let was = c.leaves.invariant.led b revealed records here.nodes (subst (λ (s : ℕ). IsRooted g.row.E g.row.K (s / 512) b records c.args.header.levels c.args.header.root here.nodes) size here.rooted) (c.in-Ok.ensures.leaf b h records here.nodes here.rooted) in
     let rooted_now = subst (λ (s : ℕ). IsRooted g.row.E g.row.K (s / 512) b records c.args.header.levels c.args.header.root here.nodes) (size ∙ size_now) here.rooted in
@@ -76,18 +76,18 @@ returns-in-Err-next_leaf-clause-placed g c = λ b h records here below.
 
 pub returns-in-Err-next_leaf-clause-broken : goal.returns-in-Err-next_leaf-clause-broken
 returns-in-Err-next_leaf-clause-broken g c = λ b h is less.
-    let revealed = c.first_leaf.ensures.unchanged b h in
-    let size = g.met.M.FlatMem.same_size _ _ c.first_leaf.ensures.kept in
+    let revealed = c.first_leaf.ensures.looks.unchanged b h in
+    let size = g.met.M.FlatMem.same_size _ _ c.first_leaf.ensures.looks.kept in
     let size_now = g.met.M.FlatMem.same_size _ _ c.leaves.invariant.kept in
-    let start = c.in-Ok.ensures.walked b h (root_met g.row.K b (g.M.FlatMem.size c.args.mem.now) c.args.header.levels c.args.header.root (g.met.M.FlatMem.revealed_length c.args.mem.now b h) c.requires.begins c.requires.some (sym is.levels_is) (sym is.root_is)) in
+    let start = c.in-Ok.ensures.walked b h (root_met g.row.K b (g.M.FlatMem.size c.args.mem.now) c.args.header.levels c.args.header.root (g.met.M.FlatMem.revealed_length c.args.mem.now b h) c.requires.rooted.begins c.requires.rooted.some (sym is.levels_is) (sym is.root_is)) in
     let was = c.leaves.invariant.walked b revealed c.args.header.root start (c.in-Ok.ensures.read b h) in
     rw (size ∙ size_now) (c.in-Err-next_leaf.ensures.walked b (c.leaves.invariant.unchanged b revealed) c.args.header.root c.leaves.at was.0 was.1)
 
 pub returns-in-None-clause-placed : goal.returns-in-None-clause-placed
 returns-in-None-clause-placed g c = λ b h records here below.
-    let some : 0 < c.args.header.levels = omega (arith, c.requires.some) in
-    let revealed = c.first_leaf.ensures.unchanged b h in
-    let size = g.met.M.FlatMem.same_size _ _ c.first_leaf.ensures.kept in
+    let some : 0 < c.args.header.levels = omega (arith, c.requires.rooted.some) in
+    let revealed = c.first_leaf.ensures.looks.unchanged b h in
+    let size = g.met.M.FlatMem.same_size _ _ c.first_leaf.ensures.looks.kept in
     let size_now = g.met.M.FlatMem.same_size _ _ c.leaves.invariant.kept in
     let was = c.leaves.invariant.led b revealed records here.nodes (subst (λ (s : ℕ). IsRooted g.row.E g.row.K (s / 512) b records c.args.header.levels c.args.header.root here.nodes) size here.rooted) (c.in-Ok.ensures.leaf b h records here.nodes here.rooted) in
     let rooted_now = subst (λ (s : ℕ). IsRooted g.row.E g.row.K (s / 512) b records c.args.header.levels c.args.header.root here.nodes) (size ∙ size_now) here.rooted in
@@ -100,8 +100,8 @@ returns-in-None-clause-placed g c = λ b h records here below.
 
 pub returns-in-None-clause-broken : goal.returns-in-None-clause-broken
 returns-in-None-clause-broken g c = λ b h is less.
-    let revealed = c.first_leaf.ensures.unchanged b h in
-    let start = c.in-Ok.ensures.walked b h (root_met g.row.K b (g.M.FlatMem.size c.args.mem.now) c.args.header.levels c.args.header.root (g.met.M.FlatMem.revealed_length c.args.mem.now b h) c.requires.begins c.requires.some (sym is.levels_is) (sym is.root_is)) in
+    let revealed = c.first_leaf.ensures.looks.unchanged b h in
+    let start = c.in-Ok.ensures.walked b h (root_met g.row.K b (g.M.FlatMem.size c.args.mem.now) c.args.header.levels c.args.header.root (g.met.M.FlatMem.revealed_length c.args.mem.now b h) c.requires.rooted.begins c.requires.rooted.some (sym is.levels_is) (sym is.root_is)) in
     let read = c.in-Ok.ensures.read b h in
     let was = c.leaves.invariant.walked b revealed c.args.header.root start read in
     let all = rw c.in-None.is at (c.in-Ok-next_leaf.ensures.walked b (c.leaves.invariant.unchanged b revealed) c.args.header.root c.leaves.at was.0 was.1) in
@@ -110,40 +110,40 @@ returns-in-None-clause-broken g c = λ b h is less.
 
 pub returns-clause-placed : goal.returns-clause-placed
 returns-clause-placed g c = λ b h records here below.
-    let some : 0 < c.args.header.levels = omega (arith, c.requires.some) in
-    let revealed = c.first_leaf.ensures.unchanged b h in
-    let size = g.met.M.FlatMem.same_size _ _ c.first_leaf.ensures.kept in
+    let some : 0 < c.args.header.levels = omega (arith, c.requires.rooted.some) in
+    let revealed = c.first_leaf.ensures.looks.unchanged b h in
+    let size = g.met.M.FlatMem.same_size _ _ c.first_leaf.ensures.looks.kept in
     let was = c.leaves.invariant.led b revealed records here.nodes (subst (λ (s : ℕ). IsRooted g.row.E g.row.K (s / 512) b records c.args.header.levels c.args.header.root here.nodes) size here.rooted) (c.in-Ok.ensures.leaf b h records here.nodes here.rooted) in
     let home_below = was.0.path.inside 1 (omega arith) (omega (arith, some)) in
     absurd (omega (arith, home_below, was.0.home_is, few_leaves c.args.header.levels here.nodes here.free c.args.header.top _ here.shared some here.top_below, c.leaves-test.false, c.len.ensures))
 
 pub returns-clause-broken : goal.returns-clause-broken
 returns-clause-broken g c = λ b h is less.
-    let revealed = c.first_leaf.ensures.unchanged b h in
-    let start = c.in-Ok.ensures.walked b h (root_met g.row.K b (g.M.FlatMem.size c.args.mem.now) c.args.header.levels c.args.header.root (g.met.M.FlatMem.revealed_length c.args.mem.now b h) c.requires.begins c.requires.some (sym is.levels_is) (sym is.root_is)) in
+    let revealed = c.first_leaf.ensures.looks.unchanged b h in
+    let start = c.in-Ok.ensures.walked b h (root_met g.row.K b (g.M.FlatMem.size c.args.mem.now) c.args.header.levels c.args.header.root (g.met.M.FlatMem.revealed_length c.args.mem.now b h) c.requires.rooted.begins c.requires.rooted.some (sym is.levels_is) (sym is.root_is)) in
     let was = c.leaves.invariant.walked b revealed c.args.header.root start (c.in-Ok.ensures.read b h) in
-    crowd_broken g.row.K b c.args.header.levels c.args.header.root is.levels_is is.root_is g.row.E _ was.0 (fewer_passed g.row.K b c.args.header.levels c.args.header.root _ _ c.leaves.at was.0 c.requires.some was.1) (omega (arith, was.2, c.leaves-test.false, c.len.ensures))
+    crowd_broken g.row.K b c.args.header.levels c.args.header.root is.levels_is is.root_is g.row.E _ was.0 (fewer_passed g.row.K b c.args.header.levels c.args.header.root _ _ c.leaves.at was.0 c.requires.rooted.some was.1) (omega (arith, was.2, c.leaves-test.false, c.len.ensures))
 
 pub returns-then-rest-count-clause-met : goal.returns-then-rest-count-clause-met
 returns-then-rest-count-clause-met g c = λ b h is.
-    let revealed = c.first_leaf.ensures.unchanged b h in
-    let start = c.in-Ok.ensures.walked b h (root_met g.row.K b (g.M.FlatMem.size c.args.mem.now) c.args.header.levels c.args.header.root (g.met.M.FlatMem.revealed_length c.args.mem.now b h) c.requires.begins c.requires.some (sym is.levels_is) (sym is.root_is)) in
+    let revealed = c.first_leaf.ensures.looks.unchanged b h in
+    let start = c.in-Ok.ensures.walked b h (root_met g.row.K b (g.M.FlatMem.size c.args.mem.now) c.args.header.levels c.args.header.root (g.met.M.FlatMem.revealed_length c.args.mem.now b h) c.requires.rooted.begins c.requires.rooted.some (sym is.levels_is) (sym is.root_is)) in
     let was = c.leaves.invariant.walked b revealed c.args.header.root start (c.in-Ok.ensures.read b h) in
     (was.1.met, was.1.path)
 
 pub returns-then-rest-count-clause-indexed : goal.returns-then-rest-count-clause-indexed
 returns-then-rest-count-clause-indexed g c = λ b h is.
-    let revealed = c.first_leaf.ensures.unchanged b h in
-    let start = c.in-Ok.ensures.walked b h (root_met g.row.K b (g.M.FlatMem.size c.args.mem.now) c.args.header.levels c.args.header.root (g.met.M.FlatMem.revealed_length c.args.mem.now b h) c.requires.begins c.requires.some (sym is.levels_is) (sym is.root_is)) in
+    let revealed = c.first_leaf.ensures.looks.unchanged b h in
+    let start = c.in-Ok.ensures.walked b h (root_met g.row.K b (g.M.FlatMem.size c.args.mem.now) c.args.header.levels c.args.header.root (g.met.M.FlatMem.revealed_length c.args.mem.now b h) c.requires.rooted.begins c.requires.rooted.some (sym is.levels_is) (sym is.root_is)) in
     let read = c.in-Ok.ensures.read b h in
     let was = c.leaves.invariant.walked b revealed c.args.header.root start read in
-    walked_indexed g.row.E g.row.K b c.args.header.levels c.args.header.root c.leaves.path.pages c.leaves.path.index c.leaves.at was.0 c.leaves.page c.leaves.rest c.args.index is.levels_is is.root_is c.requires.some was.1 was.3
+    walked_indexed g.row.E g.row.K b c.args.header.levels c.args.header.root c.leaves.path.pages c.leaves.path.index c.leaves.at was.0 c.leaves.page c.leaves.rest c.args.index is.levels_is is.root_is c.requires.rooted.some was.1 was.3
     (c.leaves.invariant.read b revealed read) c.leaves.invariant.form (omega (arith, c.if-rest-count.true, c.filled_of-count.ensures))
 
 pub returns-in-Err-next_leaf-clause-missing : goal.returns-in-Err-next_leaf-clause-missing
 returns-in-Err-next_leaf-clause-missing g c = λ b h is.
-    let revealed = c.first_leaf.ensures.unchanged b h in
-    let start = c.in-Ok.ensures.walked b h (root_met g.row.K b (g.M.FlatMem.size c.args.mem.now) c.args.header.levels c.args.header.root (g.met.M.FlatMem.revealed_length c.args.mem.now b h) c.requires.begins c.requires.some (sym is.levels_is) (sym is.root_is)) in
+    let revealed = c.first_leaf.ensures.looks.unchanged b h in
+    let start = c.in-Ok.ensures.walked b h (root_met g.row.K b (g.M.FlatMem.size c.args.mem.now) c.args.header.levels c.args.header.root (g.met.M.FlatMem.revealed_length c.args.mem.now b h) c.requires.rooted.begins c.requires.rooted.some (sym is.levels_is) (sym is.root_is)) in
     let read = c.in-Ok.ensures.read b h in
     let was = c.leaves.invariant.walked b revealed c.args.header.root start read in
     let named = c.in-Err-next_leaf.ensures.named (λ n above most. met_after g.row.K b n _ (was.1.path.met n above most)) in
@@ -151,8 +151,8 @@ returns-in-Err-next_leaf-clause-missing g c = λ b h is.
 
 pub returns-in-None-clause-missing : goal.returns-in-None-clause-missing
 returns-in-None-clause-missing g c = λ b h is same.
-    let revealed = c.first_leaf.ensures.unchanged b h in
-    let start = c.in-Ok.ensures.walked b h (root_met g.row.K b (g.M.FlatMem.size c.args.mem.now) c.args.header.levels c.args.header.root (g.met.M.FlatMem.revealed_length c.args.mem.now b h) c.requires.begins c.requires.some (sym is.levels_is) (sym is.root_is)) in
+    let revealed = c.first_leaf.ensures.looks.unchanged b h in
+    let start = c.in-Ok.ensures.walked b h (root_met g.row.K b (g.M.FlatMem.size c.args.mem.now) c.args.header.levels c.args.header.root (g.met.M.FlatMem.revealed_length c.args.mem.now b h) c.requires.rooted.begins c.requires.rooted.some (sym is.levels_is) (sym is.root_is)) in
     let read = c.in-Ok.ensures.read b h in
     let was = c.leaves.invariant.walked b revealed c.args.header.root start read in
     let all = rw c.in-None.is at (c.in-Ok-next_leaf.ensures.walked b (c.leaves.invariant.unchanged b revealed) c.args.header.root c.leaves.at was.0 was.1) in
@@ -161,8 +161,8 @@ returns-in-None-clause-missing g c = λ b h is same.
 
 pub returns-clause-missing : goal.returns-clause-missing
 returns-clause-missing g c = λ b h is same.
-    let revealed = c.first_leaf.ensures.unchanged b h in
-    let start = c.in-Ok.ensures.walked b h (root_met g.row.K b (g.M.FlatMem.size c.args.mem.now) c.args.header.levels c.args.header.root (g.met.M.FlatMem.revealed_length c.args.mem.now b h) c.requires.begins c.requires.some (sym is.levels_is) (sym is.root_is)) in
+    let revealed = c.first_leaf.ensures.looks.unchanged b h in
+    let start = c.in-Ok.ensures.walked b h (root_met g.row.K b (g.M.FlatMem.size c.args.mem.now) c.args.header.levels c.args.header.root (g.met.M.FlatMem.revealed_length c.args.mem.now b h) c.requires.rooted.begins c.requires.rooted.some (sym is.levels_is) (sym is.root_is)) in
     let read = c.in-Ok.ensures.read b h in
     let was = c.leaves.invariant.walked b revealed c.args.header.root start read in
-    crowded_by g.row.K b c.args.header.levels c.args.header.root is.levels_is is.root_is g.row.E _ c.args.index was.0 (fewer_passed g.row.K b c.args.header.levels c.args.header.root _ _ c.leaves.at was.0 c.requires.some was.1) (omega (arith, was.2, c.leaves-test.false, c.len.ensures))
+    crowded_by g.row.K b c.args.header.levels c.args.header.root is.levels_is is.root_is g.row.E _ c.args.index was.0 (fewer_passed g.row.K b c.args.header.levels c.args.header.root _ _ c.leaves.at was.0 c.requires.rooted.some was.1) (omega (arith, was.2, c.leaves-test.false, c.len.ensures))

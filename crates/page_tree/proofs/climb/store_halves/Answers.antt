@@ -10,7 +10,7 @@ pub returns-in-Ok-store-2-clause-on : goal.returns-in-Ok-store-2-clause-on
 returns-in-Ok-store-2-clause-on g c = λ e k level t b d h few way met left_kind right_kind.
     let long = g.met.M.FlatMem.revealed_length c.args.mem.now d h in (
       overwritten (overwritten d (512 * c.args.at) c.args.left.now) (512 * c.in-Ok.page) c.args.right.now,
-      c.in-Ok-store-2.ensures.written _ (c.in-Ok-store.ensures.written d (c.take_page.ensures.unchanged d h)),
+      c.in-Ok-store-2.ensures.written _ (c.in-Ok-store.ensures.written d (c.take_page.ensures.looks.unchanged d h)),
       halves_written k b d level (level + 1) t c.in-Ok.page c.take_page.new.header.free c.take_page.new.header.top c.args.at c.args.left.now c.args.right.now (c.in-Ok.ensures.on e k level t b d h few way) refl met c.told-left c.told-right left_kind right_kind
           (omega (arith, long, c.requires.inside)) (omega (arith, long, c.in-Ok.ensures.inside)),
     )

@@ -6,6 +6,7 @@ use Rattle.page_tree.proofs.Levels.{length-heads}
 use Rattle.page_tree.proofs.Descent.{go_down, inner_page, reached_at, affords, child_inside, leaf, path_down, place_down, path_root, place_root}
 use Rattle.page_tree.specs.Broken.{IsInnerForm, IsLeafForm}
 use Rattle.page_tree.proofs.MetLaws.{met_root, met_child, met_down, met_end, inner_form, path_inside, inner_broken, link_broken, leaf_broken}
+use Rattle.page_tree.proofs.Calls.{looks_on, within}
 use Rattle.page_tree.proofs.look.descend.Goals as goal
 use Rattle.page_tree.proofs.look.descend.Goals.{then-page-ne2-via-then-page-ne2, then-page-ne2-via-else-page-ne2+then-count-eq0, then-page-ne2-via-else-page-ne2+else-count-eq0+then-count}
 use Rattle.page_tree.proofs.look.descend.Goals.{then-page-ne1-via-then-page-ne1, then-page-ne1-via-else-page-ne1+then-count-eq0-2, then-page-ne1-via-else-page-ne1+else-count-eq0-2+then-count-2}
@@ -38,7 +39,7 @@ pub descent-preserved : goal.descent-preserved
 descent-preserved g c = record {
   order = (omega (arith, c.descent-test.true), omega (arith, c.descent.invariant.order.1));
   inside = omega (arith, c.if-child-pages.false, c.len.ensures);
-  unchanged = λ b h. c.load.ensures.unchanged b (c.descent.invariant.unchanged b h);
+  unchanged = λ b h. c.load.ensures.looks.unchanged b (c.descent.invariant.unchanged b h);
   place = λ b h records nodes rooted.
       let was = c.descent.invariant.place b h records nodes rooted in
       let read = c.in_ok-load.ensures.read b (c.descent.invariant.unchanged b h) in
@@ -64,9 +65,9 @@ descent-preserved g c = record {
         λ same. absurd (omega (arith, same, c.descent-test.true, c.descent.invariant.order.1)),
       );
   path = path_inside c.descent.level (c.descent.level - 1) c.args.levels _ c.descent.at c.descent.path.pages (omega (arith, c.descent-test.true)) c.descent.invariant.inside (search rules) c.descent.invariant.path;
-  kept = g.met.M.FlatMem.beside_through _ _ _ c.descent.invariant.kept c.load.ensures.kept;
-  looked = g.met.M.FlatMem.only_reads_through _ _ _ c.descent.invariant.looked c.load.ensures.looked;
-  cost = affords _ _ _ _ c.descent.level (c.descent.level - 1) (omega (arith, c.descent-test.true)) c.load.ensures.cost c.descent.invariant.cost;
+  kept = g.met.M.FlatMem.beside_through _ _ _ c.descent.invariant.kept c.load.ensures.looks.kept;
+  looked = g.met.M.FlatMem.only_reads_through _ _ _ c.descent.invariant.looked c.load.ensures.looks.looked;
+  cost = affords _ _ _ _ c.descent.level (c.descent.level - 1) (omega (arith, c.descent-test.true)) c.load.ensures.looks.cost c.descent.invariant.cost;
 }
 
 pub returns-then-page-ne1-clause-leaf : goal.returns-then-page-ne1-clause-leaf
@@ -74,7 +75,7 @@ returns-then-page-ne1-clause-leaf g c = λ b h records nodes rooted.
     let was = c.descent.invariant.place b h records nodes rooted in
     let read = c.in_ok-load-2.ensures.read b (c.descent.invariant.unchanged b h) in
     let reached = reached_at b c.args.levels nodes c.descent.level was.0 c.args.key.now c.load-2.new.page c.descent.path.pages c.descent.path.index c.descent.at (omega (arith, c.descent-test.false, c.descent.invariant.order.0)) was.1 was.2 read in
-    let here = leaf g.row.E g.row.K b records c.args.levels nodes rooted.tower c.requires.some c.args.key.now c.load-2.new.page c.descent.path.pages c.descent.path.index c.descent.at reached in
+    let here = leaf g.row.E g.row.K b records c.args.levels nodes rooted.tower c.requires.place.some c.args.key.now c.load-2.new.page c.descent.path.pages c.descent.path.index c.descent.at reached in
     elim c.then-page-ne1.branch [
       | then-page-ne1-via-then-page-ne1 w ↦ absurd (w.if-page-ne1.true here.kind)
       | then-page-ne1-via-else-page-ne1+then-count-eq0-2 w ↦ absurd (omega (arith, here.count, here.some, w.if-count-eq0-2.true, c.filled_of-count-2.ensures))
@@ -131,8 +132,8 @@ returns-clause-met g c = λ b h top.
 
 pub descent-init : goal.descent-init
 descent-init g c = record {
-  order = (c.requires.some, omega arith);
-  inside = c.requires.inside;
+  order = (c.requires.place.some, omega arith);
+  inside = c.requires.place.inside;
   unchanged = λ b h. h;
   place = λ b h records nodes rooted. ((λ m. 0), place_root nodes c.args.levels c.args.key.now rooted.one, path_root nodes c.args.levels _ _ c.args.root rooted.one rooted.root_is);
   met = λ b h top. (top, met_root g.row.K b c.args.levels c.args.root _ _, λ same. refl);
@@ -141,3 +142,8 @@ descent-init g c = record {
   looked = g.met.M.FlatMem.only_reads_itself _;
   cost = omega arith;
 }
+
+pub returns-then-child-eq0-clause-looks : goal.returns-then-child-eq0-clause-looks
+returns-then-child-eq0-clause-looks g c =
+    looks_on g.M.FlatMem g.met.M.FlatMem.beside_through g.met.M.FlatMem.beside_itself g.met.M.FlatMem.accounted_wider g.met.M.FlatMem.only_reads_through c.descent.invariant.unchanged c.descent.invariant.kept c.descent.invariant.looked c.load.ensures.looks tt
+    (within _ _ _ (affords _ _ _ _ c.descent.level (c.descent.level - 1) (omega (arith, c.descent-test.true)) c.load.ensures.looks.cost c.descent.invariant.cost))

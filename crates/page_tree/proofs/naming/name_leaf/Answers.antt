@@ -11,5 +11,5 @@ returns-clause-named g c = λ b h can.
     inr (
       c.in-Some.level,
       c.in-Some.ensures,
-      subst (λ (x : List ℕ). g.M.FlatMem.reveals c.store.new.mem (overwritten b (512 * get_or c.args.path.now.pages c.in-Some.level 0) x)) bytes (c.in-Ok-store.ensures.written b (c.load.ensures.unchanged b h)),
+      subst (λ (x : List ℕ). g.M.FlatMem.reveals c.store.new.mem (overwritten b (512 * get_or c.args.path.now.pages c.in-Some.level 0) x)) bytes (c.in-Ok-store.ensures.written b (c.load.ensures.looks.unchanged b h)),
     )

@@ -8,6 +8,7 @@ use Rattle.page_tree.proofs.Single.{empty_revealed}
 use Rattle.page_tree.proofs.CountLaws.{past_memory, none_at, walk_spends, broken_or, bare_broken}
 use Rattle.page_tree.proofs.WayLaws.{from_memory}
 use Rattle.page_tree.specs.Broken.{Breaks}
+use Rattle.page_tree.proofs.Calls.{works_on}
 use Rattle.page_tree.proofs.out_by_index.remove.Goals as goal
 
 pub returns-in-Err-clause-answer : goal.returns-in-Err-clause-answer
@@ -24,24 +25,25 @@ returns-then-header-eq0-clause-answer g c = λ b h records tree below. absurd (n
 
 pub returns-in-Err-remove_in-clause-answer : goal.returns-in-Err-remove_in-clause-answer
 returns-in-Err-remove_in-clause-answer g c = λ b h records tree below.
-    let tree_now = subst (λ (s : ℕ). IsTree g.row.E g.row.K (s / 512) b records) (g.met.M.FlatMem.same_size _ _ c.read_header.ensures.kept) tree in
-    c.in-Err-remove_in.ensures.out b (c.read_header.ensures.unchanged b h) records tree_now (c.in-Ok.ensures.fields b h) below
+    let tree_now = subst (λ (s : ℕ). IsTree g.row.E g.row.K (s / 512) b records) (g.met.M.FlatMem.same_size _ _ c.read_header.ensures.looks.kept) tree in
+    c.in-Err-remove_in.ensures.out b (c.read_header.ensures.looks.unchanged b h) records tree_now (c.in-Ok.ensures.fields b h) below
 
 pub returns-in-Err-remove_in-clause-past : goal.returns-in-Err-remove_in-clause-past
 returns-in-Err-remove_in-clause-past g c = λ b h records tree past. absurd (omega (arith, past, (c.in-Ok.ensures.fields b h).count_is, tree.header.count_is, c.if-index-header.false))
 
-pub returns-in-Err-remove_in-clause-cost : goal.returns-in-Err-remove_in-clause-cost
-returns-in-Err-remove_in-clause-cost g c = walk_spends _ _ _ _ _ 34 15 g.M.FlatMem.cost c.read_header.ensures.cost c.remove_in.ensures.cost (g.met.M.FlatMem.same_size _ _ c.read_header.ensures.kept) (omega (arith, c.requires.some_pages))
+pub returns-in-Err-remove_in-clause-works : goal.returns-in-Err-remove_in-clause-works
+returns-in-Err-remove_in-clause-works g c =
+    works_on g.M.FlatMem g.met.M.FlatMem.beside_through g.met.M.FlatMem.beside_itself g.met.M.FlatMem.accounted_wider c.read_header.ensures.looks.kept c.remove_in.ensures.works c.in-Err-remove_in.ensures.works.cause (walk_spends _ _ _ _ _ 34 15 g.M.FlatMem.cost c.read_header.ensures.looks.cost c.remove_in.ensures.works.cost (g.met.M.FlatMem.same_size _ _ c.read_header.ensures.looks.kept) (omega (arith, c.requires.sized.some_pages)))
 
 pub returns-in-Err-finish-clause-answer : goal.returns-in-Err-finish-clause-answer
 returns-in-Err-finish-clause-answer g c = λ b h records tree below.
     let is = c.in-Ok.ensures.fields b h in
-    let size = g.met.M.FlatMem.same_size _ _ c.read_header.ensures.kept in
+    let size = g.met.M.FlatMem.same_size _ _ c.read_header.ensures.looks.kept in
     let tree_now = subst (λ (s : ℕ). IsTree g.row.E g.row.K (s / 512) b records) size tree in
-    let out = c.in-Ok-remove_in.ensures.out b (c.read_header.ensures.unchanged b h) records tree_now is below in
+    let out = c.in-Ok-remove_in.ensures.out b (c.read_header.ensures.looks.unchanged b h) records tree_now is below in
     let count : c.remove_in.new.header.count ≡ length records = c.remove_in.ensures.count ∙ sym is.count_is ∙ tree.header.count_is in
     let less : length (remove records c.args.index) + 1 ≡ length records = length-remove records c.args.index below in
-    let size_in = g.met.M.FlatMem.same_size _ _ c.remove_in.ensures.kept in
+    let size_in = g.met.M.FlatMem.same_size _ _ c.remove_in.ensures.works.kept in
     let room = subst (λ (s : ℕ). length records ≤ capacity_of g.row.E (s / 512)) (size ∙ size_in) tree.capacity in
     let count_now : c.remove_in.new.header.count - 1 ≡ length (remove records c.args.index) = omega (arith, less, count) in
     elim out.2 [
@@ -52,18 +54,19 @@ returns-in-Err-finish-clause-answer g c = λ b h records tree below.
 pub returns-in-Err-finish-clause-past : goal.returns-in-Err-finish-clause-past
 returns-in-Err-finish-clause-past g c = λ b h records tree past. absurd (omega (arith, past, (c.in-Ok.ensures.fields b h).count_is, tree.header.count_is, c.if-index-header.false))
 
-pub returns-in-Err-finish-clause-cost : goal.returns-in-Err-finish-clause-cost
-returns-in-Err-finish-clause-cost g c = walk_spends _ _ _ _ _ 35 15 g.M.FlatMem.cost c.read_header.ensures.cost (omega (arith, c.remove_in.ensures.cost, c.finish.ensures.cost)) (g.met.M.FlatMem.same_size _ _ c.read_header.ensures.kept) (omega (arith, c.requires.some_pages))
+pub returns-in-Err-finish-clause-works : goal.returns-in-Err-finish-clause-works
+returns-in-Err-finish-clause-works g c =
+    works_on g.M.FlatMem g.met.M.FlatMem.beside_through g.met.M.FlatMem.beside_itself g.met.M.FlatMem.accounted_wider (g.met.M.FlatMem.beside_through _ _ _ c.read_header.ensures.looks.kept c.remove_in.ensures.works.kept) c.finish.ensures.works c.in-Err-finish.ensures.works.cause (walk_spends _ _ _ _ _ 35 15 g.M.FlatMem.cost c.read_header.ensures.looks.cost (omega (arith, c.remove_in.ensures.works.cost, c.finish.ensures.works.cost)) (g.met.M.FlatMem.same_size _ _ c.read_header.ensures.looks.kept) (omega (arith, c.requires.sized.some_pages)))
 
 pub returns-clause-answer : goal.returns-clause-answer
 returns-clause-answer g c = λ b h records tree below.
     let is = c.in-Ok.ensures.fields b h in
-    let size = g.met.M.FlatMem.same_size _ _ c.read_header.ensures.kept in
+    let size = g.met.M.FlatMem.same_size _ _ c.read_header.ensures.looks.kept in
     let tree_now = subst (λ (s : ℕ). IsTree g.row.E g.row.K (s / 512) b records) size tree in
-    let out = c.in-Ok-remove_in.ensures.out b (c.read_header.ensures.unchanged b h) records tree_now is below in
+    let out = c.in-Ok-remove_in.ensures.out b (c.read_header.ensures.looks.unchanged b h) records tree_now is below in
     let count : c.remove_in.new.header.count ≡ length records = c.remove_in.ensures.count ∙ sym is.count_is ∙ tree.header.count_is in
     let less : length (remove records c.args.index) + 1 ≡ length records = length-remove records c.args.index below in
-    let size_in = g.met.M.FlatMem.same_size _ _ c.remove_in.ensures.kept in
+    let size_in = g.met.M.FlatMem.same_size _ _ c.remove_in.ensures.works.kept in
     let room = subst (λ (s : ℕ). length records ≤ capacity_of g.row.E (s / 512)) (size ∙ size_in) tree.capacity in
     let count_now : c.remove_in.new.header.count - 1 ≡ length (remove records c.args.index) = omega (arith, less, count) in
     let whole : (x : List ℕ) × g.M.FlatMem.reveals c.finish.new.mem x × IsTree g.row.E g.row.K (g.M.FlatMem.size c.remove_in.new.mem / 512) x (remove records c.args.index) = elim out.2 [
@@ -78,8 +81,9 @@ returns-clause-answer g c = λ b h records tree below.
 pub returns-clause-past : goal.returns-clause-past
 returns-clause-past g c = λ b h records tree past. absurd (omega (arith, past, (c.in-Ok.ensures.fields b h).count_is, tree.header.count_is, c.if-index-header.false))
 
-pub returns-clause-cost : goal.returns-clause-cost
-returns-clause-cost g c = walk_spends _ _ _ _ _ 35 15 g.M.FlatMem.cost c.read_header.ensures.cost (omega (arith, c.remove_in.ensures.cost, c.finish.ensures.cost)) (g.met.M.FlatMem.same_size _ _ c.read_header.ensures.kept) (omega (arith, c.requires.some_pages))
+pub returns-clause-works : goal.returns-clause-works
+returns-clause-works g c =
+    works_on g.M.FlatMem g.met.M.FlatMem.beside_through g.met.M.FlatMem.beside_itself g.met.M.FlatMem.accounted_wider (g.met.M.FlatMem.beside_through _ _ _ c.read_header.ensures.looks.kept c.remove_in.ensures.works.kept) c.finish.ensures.works tt (walk_spends _ _ _ _ _ 35 15 g.M.FlatMem.cost c.read_header.ensures.looks.cost (omega (arith, c.remove_in.ensures.works.cost, c.finish.ensures.works.cost)) (g.met.M.FlatMem.same_size _ _ c.read_header.ensures.looks.kept) (omega (arith, c.requires.sized.some_pages)))
 
 pub returns-in-Err-clause-broken : goal.returns-in-Err-clause-broken
 returns-in-Err-clause-broken g c = λ b h. broken_or _ _ c.in-Err.error (c.in-Err.ensures.broken b h)
@@ -95,7 +99,7 @@ returns-then-header-eq0-clause-broken g c = λ b h.
 pub returns-in-Err-remove_in-clause-broken : goal.returns-in-Err-remove_in-clause-broken
 returns-in-Err-remove_in-clause-broken g c = λ b h.
     broken_or _ _ c.in-Err-remove_in.error
-    (rw (g.met.M.FlatMem.same_size _ _ c.read_header.ensures.kept) (c.in-Err-remove_in.ensures.broken b (c.read_header.ensures.unchanged b h) (c.in-Ok.ensures.fields b h) (omega (arith, c.if-index-header.false))))
+    (rw (g.met.M.FlatMem.same_size _ _ c.read_header.ensures.looks.kept) (c.in-Err-remove_in.ensures.broken b (c.read_header.ensures.looks.unchanged b h) (c.in-Ok.ensures.fields b h) (omega (arith, c.if-index-header.false))))
 
 pub returns-in-Err-finish-clause-broken : goal.returns-in-Err-finish-clause-broken
 returns-in-Err-finish-clause-broken g c = λ b h.
@@ -114,8 +118,8 @@ pub returns-clause-past_any : goal.returns-clause-past_any
 returns-clause-past_any g c = λ b h past. absurd (omega (arith, past, (c.in-Ok.ensures.fields b h).count_is, c.if-index-header.false))
 
 pub returns-clause-stood : goal.returns-clause-stood
-returns-clause-stood g c = λ b h. c.in-Ok-remove_in.ensures.stood b (c.read_header.ensures.unchanged b h) (c.in-Ok.ensures.fields b h)
+returns-clause-stood g c = λ b h. c.in-Ok-remove_in.ensures.stood b (c.read_header.ensures.looks.unchanged b h) (c.in-Ok.ensures.fields b h)
 
 pub returns-in-Err-remove_in-clause-missing : goal.returns-in-Err-remove_in-clause-missing
 returns-in-Err-remove_in-clause-missing g c = λ b h.
-    rw (g.met.M.FlatMem.same_size _ _ c.read_header.ensures.kept) (c.in-Err-remove_in.ensures.missing b (c.read_header.ensures.unchanged b h) (c.in-Ok.ensures.fields b h))
+    rw (g.met.M.FlatMem.same_size _ _ c.read_header.ensures.looks.kept) (c.in-Err-remove_in.ensures.missing b (c.read_header.ensures.looks.unchanged b h) (c.in-Ok.ensures.fields b h))

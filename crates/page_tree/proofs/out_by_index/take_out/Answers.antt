@@ -14,23 +14,23 @@ use Rattle.page_tree.proofs.out_by_index.take_out.Goals as goal
 
 pub returns-then-header-gt1-clause-out : goal.returns-then-header-gt1-clause-out
 returns-then-header-gt1-clause-out g c = λ b h records here i placed.
-    let some : 0 < c.args.header.now.levels = omega (arith, c.requires.some) in
-    let low = single_level g.row.E g.row.K (g.M.FlatMem.size c.args.mem.now / 512) b records c.args.header.now.levels c.args.header.now.root c.args.header.now.free c.args.header.now.top here c.requires.widths some
+    let some : 0 < c.args.header.now.levels = omega (arith, c.requires.way.some) in
+    let low = single_level g.row.E g.row.K (g.M.FlatMem.size c.args.mem.now / 512) b records c.args.header.now.levels c.args.header.now.root c.args.header.now.free c.args.header.now.top here c.requires.sized.widths some
     c.args.page.now c.args.path.now.pages c.args.path.now.index c.args.place.page placed.home placed.path placed.bytes (sym c.filled_of-count.ensures ∙ c.if-count-eq1.true) in
     absurd (omega (arith, low, c.if-header-gt1.true))
 
 pub returns-in-Ok-clause-out : goal.returns-in-Ok-clause-out
 returns-in-Ok-clause-out g c = λ b h records here i placed.
-    let some : 0 < c.args.header.now.levels = omega (arith, c.requires.some) in
+    let some : 0 < c.args.header.now.levels = omega (arith, c.requires.way.some) in
     let given = c.in-Ok.ensures.given b h in
     let long : 512 * (g.M.FlatMem.size c.args.mem.now / 512) ≤ length b = omega (arith, g.met.M.FlatMem.revealed_length c.args.mem.now b h) in
     let below = placed_below g.row.E g.row.K b records c.args.header.now.levels here.nodes here.rooted.tower some c.args.page.now c.args.path.now.pages c.args.path.now.index c.args.place.page placed.home placed.path placed.bytes c.args.place.index placed.below in
     let i_below : i < length records = omega (arith, below, placed.is) in
-    let bare = single_bare g.row.E g.row.K (g.M.FlatMem.size c.args.mem.now / 512) b records c.args.header.now.levels c.args.header.now.root c.args.header.now.free c.args.header.now.top here c.requires.widths some
+    let bare = single_bare g.row.E g.row.K (g.M.FlatMem.size c.args.mem.now / 512) b records c.args.header.now.levels c.args.header.now.root c.args.header.now.free c.args.header.now.top here c.requires.sized.widths some
     c.args.page.now c.args.path.now.pages c.args.path.now.index c.args.place.page placed.home placed.path placed.bytes (sym c.filled_of-count.ensures ∙ c.if-count-eq1.true) i i_below given.0 given.1 given.2 given.3 long in (
       overwritten b (512 * c.args.place.page) given.0,
       given.4,
-      inr (bare_at g.row.E g.row.K (g.M.FlatMem.size c.args.mem.now / 512) _ _ _ _ _ _ _ _ _ _ (sym c.give_page.ensures.levels) (sym c.give_page.ensures.root) (sym c.in-Ok.ensures.free) (sym c.give_page.ensures.top) bare),
+      inr (bare_at g.row.E g.row.K (g.M.FlatMem.size c.args.mem.now / 512) _ _ _ _ _ _ _ _ _ _ (sym c.give_page.ensures.keeps.levels) (sym c.give_page.ensures.keeps.root) (sym c.in-Ok.ensures.free) (sym c.give_page.ensures.top) bare),
     )
 
 pub returns-in-Ok-take_first-clause-out : goal.returns-in-Ok-take_first-clause-out
@@ -58,7 +58,7 @@ returns-clause-out g c = λ b h records here i placed.
 
 pub returns-then-header-gt1-clause-broken : goal.returns-then-header-gt1-clause-broken
 returns-then-header-gt1-clause-broken g c = λ b h levels_is path met read.
-    single_underfull g.row.E g.row.K (g.M.FlatMem.size c.args.mem.now / 512) b c.args.header.now.levels c.args.place.page met levels_is c.if-header-gt1.true (omega (arith, ap filled (sym read), c.if-count-eq1.true, c.filled_of-count.ensures)) (leaf_room_least g.row.E c.requires.widths.entry_least c.requires.widths.entry_most).0
+    single_underfull g.row.E g.row.K (g.M.FlatMem.size c.args.mem.now / 512) b c.args.header.now.levels c.args.place.page met levels_is c.if-header-gt1.true (omega (arith, ap filled (sym read), c.if-count-eq1.true, c.filled_of-count.ensures)) (leaf_room_least g.row.E c.requires.sized.widths.entry_least c.requires.sized.widths.entry_most).0
 
 pub returns-in-Err-take_first-clause-broken : goal.returns-in-Err-take_first-clause-broken
 returns-in-Err-take_first-clause-broken g c = λ b h levels_is path met read. c.in-Err-take_first.ensures.broken c.args.header.now.root b h levels_is path met

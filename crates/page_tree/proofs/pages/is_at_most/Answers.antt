@@ -1,5 +1,4 @@
-use Rattle.std.proofs.Common.{◌∙◌, ap, arith, rules}
-use Rattle.std.specs.Ordering.{is_le}
+use Rattle.std.proofs.Common.{◌∙◌, arith, rules}
 use Rattle.flat_mem.specs.Order.{at_most}
 use Rattle.page_tree.proofs.Compared.{other_numbers, same_numbers}
 use Rattle.page_tree.proofs.pages.is_at_most.Goals as goal

@@ -1,4 +1,4 @@
-use Rattle.std.proofs.Common.{◌∙◌, ap, arith, rules}
+use Rattle.std.proofs.Common.{arith, rules}
 use Rattle.flat_mem.specs.Order.{at_most}
 use Rattle.page_tree.proofs.Compared.{four_numbers}
 use Rattle.page_tree.proofs.pages.is_rest_at_most.Goals as goal

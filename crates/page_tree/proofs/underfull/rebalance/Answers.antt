@@ -18,8 +18,8 @@ returns-then-done-clause-rebalanced g c = λ b h records pending.
       closed.0,
       closed.1,
       subst (λ (s : ℕ). IsClosed g.row.E g.row.K (s / 512) closed.0 records c.rebalance_up.new.header.levels c.rebalance_up.new.header.root c.rebalance_up.new.header.free c.rebalance_up.new.header.top) (sym size) closed.2,
-      c.rebalance_up.ensures.some_levels,
-      omega (arith, c.rebalance_up.ensures.levels, c.up.invariant.levels, c.requires.few),
+      c.rebalance_up.ensures.goes.some_levels,
+      omega (arith, c.rebalance_up.ensures.goes.levels, c.up.invariant.levels, c.requires.way.few),
     )
 
 pub returns-in-Err-clause-rebalanced : goal.returns-in-Err-clause-rebalanced
@@ -31,11 +31,11 @@ returns-in-Err-clause-rebalanced g c = λ b h records pending.
 
 pub up-preserved : goal.up-preserved
 up-preserved g c = record {
-  order = (omega arith, omega (arith, c.in-Ok.ensures.same_levels c.if-done.false, c.up-test.true));
-  levels = c.in-Ok.ensures.same_levels c.if-done.false ∙ c.up.invariant.levels;
-  root = c.in-Ok.ensures.same_root c.if-done.false ∙ c.up.invariant.root;
-  count = c.rebalance_up.ensures.count ∙ c.up.invariant.count;
-  inside = rw (g.met.M.FlatMem.same_size _ _ c.up.invariant.kept) c.in-Ok.ensures.inside;
+  order = (omega arith, omega (arith, c.in-Ok.ensures.goes.same_levels c.if-done.false, c.up-test.true));
+  levels = c.in-Ok.ensures.goes.same_levels c.if-done.false ∙ c.up.invariant.levels;
+  root = c.in-Ok.ensures.goes.same_root c.if-done.false ∙ c.up.invariant.root;
+  count = c.rebalance_up.ensures.goes.count ∙ c.up.invariant.count;
+  inside = rw (g.met.M.FlatMem.same_size _ _ c.up.invariant.kept) c.in-Ok.ensures.goes.inside;
   pending = λ b h records pending.
       let was = c.up.invariant.pending b h records pending in
       let size = g.met.M.FlatMem.same_size _ _ c.up.invariant.kept in
@@ -52,11 +52,11 @@ up-preserved g c = record {
         on.0,
         on.1,
         subst (λ (n : ℕ). IsRebalancing g.row.K b on.0 n (c.up.level + 1) root c.args.path.now.pages c.args.path.now.index) c.up.invariant.levels on.2,
-        subst (Meets g.row.K b (c.up.level + 1)) (sym (c.in-Ok.ensures.up c.if-done.false)) (was.2.met.met (c.up.level + 1) (omega (arith, c.up.invariant.order.0)) (omega (arith, c.up-test.true, c.up.invariant.levels))),
+        subst (Meets g.row.K b (c.up.level + 1)) (sym (c.in-Ok.ensures.goes.up c.if-done.false)) (was.2.met.met (c.up.level + 1) (omega (arith, c.up.invariant.order.0)) (omega (arith, c.up-test.true, c.up.invariant.levels))),
       );
   long = c.rebalance_up.array_long;
-  kept = g.met.M.FlatMem.beside_through _ _ _ c.up.invariant.kept c.rebalance_up.ensures.kept;
-  cost = paid_up (g.M.FlatMem.spent c.up.mem) (g.M.FlatMem.spent c.rebalance_up.new.mem) (g.M.FlatMem.spent c.args.mem.now) g.M.FlatMem.cost c.up.level (omega (arith, c.up-test.true, c.up.invariant.levels, c.requires.few)) c.rebalance_up.ensures.cost c.up.invariant.cost;
+  kept = g.met.M.FlatMem.beside_through _ _ _ c.up.invariant.kept c.rebalance_up.ensures.works.kept;
+  cost = paid_up (g.M.FlatMem.spent c.up.mem) (g.M.FlatMem.spent c.rebalance_up.new.mem) (g.M.FlatMem.spent c.args.mem.now) g.M.FlatMem.cost c.up.level (omega (arith, c.up-test.true, c.up.invariant.levels, c.requires.way.few)) c.rebalance_up.ensures.works.cost c.up.invariant.cost;
 }
 
 pub returns-in-Ok-store-clause-rebalanced : goal.returns-in-Ok-store-clause-rebalanced
@@ -72,7 +72,7 @@ returns-in-Ok-store-clause-rebalanced g c = λ b h records pending.
       c.in-Ok-store.ensures.written was.0 was.1,
       subst (λ (s : ℕ). IsClosed g.row.E g.row.K (s / 512) (overwritten was.0 (512 * c.up.at) c.up.page) records c.up.header.levels c.up.header.root c.up.header.free c.up.header.top) (sym size) closed,
       omega (arith, c.up.invariant.order),
-      omega (arith, c.up.invariant.levels, c.requires.few),
+      omega (arith, c.up.invariant.levels, c.requires.way.few),
     )
 
 pub returns-in-Err-clause-broken : goal.returns-in-Err-clause-broken

@@ -12,8 +12,8 @@ use Rattle.page_tree.proofs.walk.go_down.Goals as goal
 
 pub down-init : goal.down-init
 down-init g c = record {
-  order = (c.requires.some, omega arith);
-  inside = c.requires.inside;
+  order = (c.requires.place.some, omega arith);
+  inside = c.requires.place.inside;
   some = λ some. some;
   unchanged = λ b h. h;
   led = λ b h records levels root nodes home rooted most path fits. (home, path, fits, refl);
@@ -31,7 +31,7 @@ down-preserved g c = record {
   order = (omega (arith, c.down-test.true), omega (arith, c.down.invariant.order.1));
   inside = omega (arith, c.if-child-pages.false, c.len.ensures);
   some = λ some. omega (arith, c.if-child-eq0.false);
-  unchanged = λ b h. c.read_inner.ensures.unchanged b (c.down.invariant.unchanged b h);
+  unchanged = λ b h. c.read_inner.ensures.looks.unchanged b (c.down.invariant.unchanged b h);
   led = λ b h records levels root nodes home rooted most path fits.
       let was = c.down.invariant.led b h records levels root nodes home rooted most path fits in
       let read = c.in-Ok.ensures.read b (c.down.invariant.unchanged b h) in
@@ -72,9 +72,9 @@ down-preserved g c = record {
   coming = come_down c.args.level c.args.at c.args.place c.args.path.now.pages c.args.path.now.index c.down.level (c.down.level - 1) c.down.at c.down.place c.link_of-child.result c.down.path.pages c.down.path.index (omega (arith, c.down-test.true)) c.down.invariant.order.1 (search rules) (search rules)
       c.down.invariant.coming;
   path = λ levels inside. path_inside c.down.level (c.down.level - 1) levels _ c.down.at c.down.path.pages (omega (arith, c.down-test.true)) c.down.invariant.inside (search rules) (c.down.invariant.path levels inside);
-  kept = g.met.M.FlatMem.beside_through _ _ _ c.down.invariant.kept c.read_inner.ensures.kept;
-  looked = g.met.M.FlatMem.only_reads_through _ _ _ c.down.invariant.looked c.read_inner.ensures.looked;
-  cost = affords _ _ _ _ c.down.level (c.down.level - 1) (omega (arith, c.down-test.true)) c.read_inner.ensures.cost c.down.invariant.cost;
+  kept = g.met.M.FlatMem.beside_through _ _ _ c.down.invariant.kept c.read_inner.ensures.looks.kept;
+  looked = g.met.M.FlatMem.only_reads_through _ _ _ c.down.invariant.looked c.read_inner.ensures.looks.looked;
+  cost = affords _ _ _ _ c.down.level (c.down.level - 1) (omega (arith, c.down-test.true)) c.read_inner.ensures.looks.cost c.down.invariant.cost;
 }
 
 pub returns-in-Err-clause-leaf : goal.returns-in-Err-clause-leaf

@@ -7,7 +7,7 @@ pub returns-clause-count : goal.returns-clause-count
 returns-clause-count g c = λ xs lists. c.count.ensures.well lists.bytes lists.revealed xs lists.tree
 
 pub returns-clause-same_list : goal.returns-clause-same_list
-returns-clause-same_list g c = λ xs lists. lists_kept g.row.E g.row.K _ _ _ _ xs (g.met.M.FlatMem.same_size _ _ c.count.ensures.kept) c.count.ensures.unchanged lists
+returns-clause-same_list g c = λ xs lists. lists_kept g.row.E g.row.K _ _ _ _ xs (g.met.M.FlatMem.same_size _ _ c.count.ensures.looks.kept) c.count.ensures.looks.unchanged lists
 
 pub returns-clause-inside : goal.returns-clause-inside
 returns-clause-inside g c = λ b h. err_wider c.count.result _ _ (λ why named. broken_inside g.row.E g.row.K _ b why (g.met.M.FlatMem.revealed_length _ b h) (omega (arith, c.args.self.now.least)) named) (c.count.ensures.broken b h)

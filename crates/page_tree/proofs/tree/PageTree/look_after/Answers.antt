@@ -10,10 +10,10 @@ pub returns-in-Err-clause-found : goal.returns-in-Err-clause-found
 returns-in-Err-clause-found g c = λ xs lists. c.in-Err.ensures.answer lists.bytes lists.revealed xs lists.tree
 
 pub returns-in-Ok-clause-same_list : goal.returns-in-Ok-clause-same_list
-returns-in-Ok-clause-same_list g c = λ xs lists. lists_kept g.row.E g.row.K _ _ _ _ xs (g.met.M.FlatMem.same_size _ _ c.look_after.ensures.kept) c.look_after.ensures.unchanged lists
+returns-in-Ok-clause-same_list g c = λ xs lists. lists_kept g.row.E g.row.K _ _ _ _ xs (g.met.M.FlatMem.same_size _ _ c.look_after.ensures.looks.kept) c.look_after.ensures.looks.unchanged lists
 
 pub returns-in-Err-clause-same_list : goal.returns-in-Err-clause-same_list
-returns-in-Err-clause-same_list g c = λ xs lists. lists_kept g.row.E g.row.K _ _ _ _ xs (g.met.M.FlatMem.same_size _ _ c.look_after.ensures.kept) c.look_after.ensures.unchanged lists
+returns-in-Err-clause-same_list g c = λ xs lists. lists_kept g.row.E g.row.K _ _ _ _ xs (g.met.M.FlatMem.same_size _ _ c.look_after.ensures.looks.kept) c.look_after.ensures.looks.unchanged lists
 
 pub returns-in-Err-clause-inside : goal.returns-in-Err-clause-inside
 returns-in-Err-clause-inside g c = λ b h. broken_inside g.row.E g.row.K _ b c.in-Err.error (g.met.M.FlatMem.revealed_length _ b h) (omega (arith, c.args.self.now.least)) (c.in-Err.ensures.broken b h)

@@ -10,7 +10,7 @@ pub returns-clause-past : goal.returns-clause-past
 returns-clause-past g c = λ xs lists past. c.nth.ensures.past lists.bytes lists.revealed xs lists.tree past
 
 pub returns-clause-same_list : goal.returns-clause-same_list
-returns-clause-same_list g c = λ xs lists. lists_kept g.row.E g.row.K _ _ _ _ xs (g.met.M.FlatMem.same_size _ _ c.nth.ensures.kept) c.nth.ensures.unchanged lists
+returns-clause-same_list g c = λ xs lists. lists_kept g.row.E g.row.K _ _ _ _ xs (g.met.M.FlatMem.same_size _ _ c.nth.ensures.looks.kept) c.nth.ensures.looks.unchanged lists
 
 pub returns-clause-inside : goal.returns-clause-inside
 returns-clause-inside g c = λ b h. err_wider c.nth.result _ _ (λ why named. past_inside g.row.E g.row.K _ b _ why (g.met.M.FlatMem.revealed_length _ b h) (omega (arith, c.args.self.now.least)) named) (c.nth.ensures.broken b h)

@@ -6,7 +6,7 @@ use Rattle.page_tree.proofs.tree.PageTree.remove.Goals as goal
 
 pub returns-clause-removed : goal.returns-clause-removed
 returns-clause-removed g c = λ xs lists below.
-    let size = g.met.M.FlatMem.same_size _ _ c.remove.ensures.kept in
+    let size = g.met.M.FlatMem.same_size _ _ c.remove.ensures.works.kept in
     match_weaker c.remove.result _ _ _ _ (λ _ done. lists_out_at g.row.E g.row.K _ _ _ xs size c.args.index done) (λ why from. from) (c.remove.ensures.answer lists.bytes lists.revealed xs lists.tree below)
 
 pub returns-clause-past : goal.returns-clause-past

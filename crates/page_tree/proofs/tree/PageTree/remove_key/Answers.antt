@@ -6,7 +6,7 @@ use Rattle.page_tree.proofs.tree.PageTree.remove_key.Goals as goal
 
 pub returns-clause-removed : goal.returns-clause-removed
 returns-clause-removed g c = λ xs lists.
-    let same = g.met.M.FlatMem.same_size _ _ c.remove_key.ensures.kept in
+    let same = g.met.M.FlatMem.same_size _ _ c.remove_key.ensures.works.kept in
     match_weaker c.remove_key.result _ _ _ _ (λ found done. lists_out g.row.E g.row.K _ _ _ xs same lists.bytes c.args.key.now found lists.tree done) (λ why from. from) (c.remove_key.ensures.answer lists.bytes lists.revealed xs lists.tree)
 
 pub returns-clause-inside : goal.returns-clause-inside

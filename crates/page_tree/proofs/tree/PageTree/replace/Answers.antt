@@ -6,7 +6,7 @@ use Rattle.page_tree.proofs.tree.PageTree.replace.Goals as goal
 
 pub returns-clause-replaced : goal.returns-clause-replaced
 returns-clause-replaced g c = λ xs lists below same.
-    let size = g.met.M.FlatMem.same_size _ _ c.replace.ensures.kept in
+    let size = g.met.M.FlatMem.same_size _ _ c.replace.ensures.works.kept in
     match_weaker c.replace.result _ _ _ _ (λ _ done. lists_set_at g.row.E g.row.K _ _ _ xs size c.args.index c.args.entry.now done) (λ why from. from) (c.replace.ensures.answer lists.bytes lists.revealed xs lists.tree below same)
 
 pub returns-clause-past : goal.returns-clause-past

@@ -6,7 +6,7 @@ use Rattle.page_tree.proofs.tree.PageTree.replace_key.Goals as goal
 
 pub returns-clause-replaced : goal.returns-clause-replaced
 returns-clause-replaced g c = λ xs lists.
-    let same = g.met.M.FlatMem.same_size _ _ c.replace_key.ensures.kept in
+    let same = g.met.M.FlatMem.same_size _ _ c.replace_key.ensures.works.kept in
     match_weaker c.replace_key.result _ _ _ _ (λ found done. lists_over g.row.E g.row.K _ _ _ xs same lists.bytes c.args.entry.now found lists.tree done) (λ why from. from) (c.replace_key.ensures.answer lists.bytes lists.revealed xs lists.tree)
 
 pub returns-clause-inside : goal.returns-clause-inside
