@@ -1,4 +1,5 @@
 mod BitLemmas
 mod PageLemmas
+mod SearchLemmas
 mod Spending
 mod WordLemmas

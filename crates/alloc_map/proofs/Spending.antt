@@ -1,5 +1,5 @@
 -- What a walk over the pages of the map spends.
-use Rattle.std.proofs.Common.{◌≡◌, ℕ, ◌+◌, ◌*◌, ◌/◌, ◌<◌, ◌≤◌, arith}
+use Rattle.std.proofs.Common.{◌≡◌, ℕ, ◌+◌, ◌-◌, ◌*◌, ◌/◌, ◌<◌, ◌≤◌, arith}
 use Rattle.std.proofs.lemmas.Nat.{mul-le}
 use Rattle.alloc_map.specs.Pages.{first_sector_after, pages_to, pages_between}
 
@@ -37,6 +37,12 @@ spent_all each from end at start spent had = omega (arith, mul-le had.pages each
 
 pub pages_of_part : (from end sectors : ℕ) → end ≤ sectors → pages_between from end ≤ pages_to sectors
 pages_of_part from end sectors within = omega (arith, within)
+
+-- one page, those after it, and then those before it
+pub spent_round : (first low at stop sectors cost a b c d : ℕ) → low ≤ at → stop ≡ first_sector_after at → stop < sectors → b ≤ a + cost → c ≤ b + pages_between stop sectors * cost → d ≤ c + (low / 4096 - first / 4096) * cost → d ≤ a + pages_to sectors * cost
+spent_round first low at stop sectors cost a b c d before after more one two three =
+    let fit : 1 + pages_between stop sectors + (low / 4096 - first / 4096) ≤ pages_to sectors = omega (arith, before, after, more) in
+    omega (arith, mul-le (1 + pages_between stop sectors + (low / 4096 - first / 4096)) cost (pages_to sectors) cost fit (omega arith), one, two, three)
 
 -- two searches, and then marks
 pub spent_taken : (p q r t cost a b c d : ℕ) → p ≤ t → q ≤ t → r ≤ t → b ≤ a + p * cost → c ≤ b + q * cost → d ≤ c + 2 * r * cost → d ≤ a + 4 * t * cost

@@ -11,6 +11,13 @@ pub record IsDataRun (first sectors most : ℕ) (run : ℕ × ℕ) : Type 0 wher
   pub above : first ≤ run.0
   pub inside : run.0 + run.1 ≤ sectors
 
+-- s is a free one of the sectors from one up to another, or the latter where none is free. Where all before `from` are
+-- used, so are all before s.
+pub record IsFreeFrom (b : List ℕ) (first from sectors s : ℕ) : Type 0 where
+  pub free : s < sectors → is_used b s ≡ false
+  pub none : s ≡ sectors → AreAll true b first sectors
+  pub lowest : AreAll true b first from → AreAll true b first s
+
 -- s is the lowest free one of the sectors from one up to another
 pub record IsLowestFree (b : List ℕ) (first sectors s : ℕ) : Type 0 where
   pub above : first ≤ s

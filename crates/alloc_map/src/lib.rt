@@ -5,6 +5,7 @@ mod bits;
 mod error;
 mod map;
 mod pages;
+mod search;
 
 pub use error::AllocError;
 pub use map::AllocMap;

@@ -4,7 +4,7 @@ ghost use Rattle.alloc_map.specs.Bits.{is_used, AreAll, free_in, RevealsMarked, 
 ghost use Rattle.alloc_map.specs.Pages.{pages_to, pages_between};
 ghost use Rattle.alloc_map.specs.Runs.{IsDataRun, IsLowestFree, IsLongestFree, RevealsTaken, RevealsSomeTaken, IfMem};
 
-use crate::{AllocError, pages};
+use crate::{AllocError, pages, search};
 use flat_mem::FlatMem;
 
 /// The map of the used sectors of a volume, a bit each in the pages of a memory.
@@ -73,13 +73,14 @@ impl<M: FlatMem> AllocMap<M> {
         pages::count_free(&mut self.mem, self.first, self.sectors)
     }
 
-    /// Takes the lowest free data sector and as many free ones directly after it as there are, at most `most` together.
+    /// Takes a free data sector and as many free ones directly after it as there are, at most `most` together. Where all
+    /// data sectors before `from` are used it is the lowest free one.
     ///
     /// Gives the first sector and how many were taken. After an error of the memory some of the free data sectors may be
     /// marked.
-    pub fn take(&mut self, most: u32) -> Result<(u32, u32), AllocError<M::Error>>
+    pub fn take(&mut self, from: u32, most: u32) -> Result<(u32, u32), AllocError<M::Error>>
         requires { 1 ≤ most }
-        ensures lowest { (b : List ℕ) → M.reveals (map_memory self.old) b
+        ensures lowest { (b : List ℕ) → M.reveals (map_memory self.old) b → AreAll true b (first_data self.old) from
             → IfOk result (λ run. IsLowestFree b (first_data self.old) (sector_count self.old) run.0) }
         ensures longest { (b : List ℕ) → M.reveals (map_memory self.old) b
             → IfOk result (λ run. IsLongestFree b (sector_count self.old) most run.0 run.1) }
@@ -97,11 +98,11 @@ impl<M: FlatMem> AllocMap<M> {
         ensures first { first_data self.new ≡ first_data self.old }
         ensures sectors { sector_count self.new ≡ sector_count self.old }
         ensures kept { M.beside (map_memory self.old) (map_memory self.new) }
-        // two searches, and one read and one write a page
+        // two looks, and one read and one write a page
         ensures cost { M.spent (map_memory self.new)
             ≤ M.spent (map_memory self.old) + 4 * pages_to (sector_count self.old) * M.cost }
     {
-        let sector = match pages::find(&mut self.mem, self.first, self.sectors, false) {
+        let sector = match search::find_free(&mut self.mem, self.first, from, self.sectors) {
             Ok(sector) => sector,
             Err(error) => return Err(AllocError::Mem(error)),
         };

@@ -7,8 +7,8 @@ ghost use Rattle.alloc_map.specs.Pages.{first_sector_after, pages_to, pages_betw
 use crate::bits;
 use flat_mem::{FlatMem, PAGE_BYTES, Page};
 
-// The end of the sectors from `at` to `end` that lie in one page with the first.
-fn page_stop(at: u32, end: u32) -> u32
+/// The end of the sectors from `at` to `end` that lie in one page with the first.
+pub fn page_stop(at: u32, end: u32) -> u32
     requires { at < end }
     ensures more { at < result }
     ensures within { result ≤ end }

@@ -38,7 +38,7 @@ use Rattle.label_calls.specs.Runs.{AreOfFile, AreUncovered, HaveOnes, RelabelsRu
 use Rattle.filer_kernel.specs.declared.cached.CachedRuns.{CachedRuns}
 use Rattle.filer_kernel.specs.Cached.{runs_of}
 use Rattle.filer_kernel.specs.Becomes.{Becomes}
-use Rattle.filer_kernel.specs.Marks.{BitsAre, marked, IsLowestRun}
+use Rattle.filer_kernel.specs.Marks.{BitsAre, marked, IsFreeRun}
 use Rattle.filer_kernel.specs.Triples.{MapIs}
 use Rattle.filer_kernel.specs.PlaceLaws.{data_first}
 use Rattle.filer_kernel.proofs.MapLemmas.{same_elements}
@@ -107,12 +107,12 @@ run_makes {run = run} {a = a} {d = d} {s = s} {u = u} first middle last =
 module _ {tables : ℕ} (layout : Layout) (is : IsLayout layout) (kept : CachedRuns) (shapes : Shapes) (spaces : List Space) (x : List Sector) (d0 : DiskState) (s0 : Slots)
     (books : BooksUpto tables d0 s0 layout kept shapes spaces x) (hidden : ShowsNoFree spaces) (run : Run) (most : ℕ) (d1 : DiskState) (s1 : Slots) (l1 : Layout)
     (beside : Beside AllocationMap d0 s0 layout d1 s1 l1) (form : IsDataRun layout.first layout.sectors most (run.sector, run.pages))
-    (lowest : IsLowestRun layout (marks_shown layout is (runs_of layout.sectors kept) shapes x books.booked) most (run.sector, run.pages))
+    (run_free : IsFreeRun layout (marks_shown layout is (runs_of layout.sectors kept) shapes x books.booked) most (run.sector, run.pages))
     (taken : Becomes AllocationMap layout x (BitsAre layout (marked true run.sector run.pages (marks_shown layout is (runs_of layout.sectors kept) shapes x books.booked))) d1 s1) where
   free : (k : ℕ) → k < run.pages → IsFree (labels_of x) (run.sector + k)
   free k below =
       let above = form.above in let inside = form.inside in
-      free_by_mark layout is (runs_of layout.sectors kept) shapes x books.booked (run.sector + k) (omega (arith, above)) (omega (arith, inside, below)) (lowest.free (run.sector + k) (omega arith) (omega (arith, below)))
+      free_by_mark layout is (runs_of layout.sectors kept) shapes x books.booked (run.sector + k) (omega (arith, above)) (omega (arith, inside, below)) (run_free.free (run.sector + k) (omega arith) (omega (arith, below)))
 
   -- the run was free
   pub row_was_free : (kind : ℕ) → AreFree run.id kind run.first (sectors_of run) (labels_of x)

@@ -13,7 +13,7 @@ ghost use Rattle.swapper_kernel.specs.Homes.{AreNamed};
 ghost use Rattle.label_calls.specs.Labels.{free_ones};
 ghost use Rattle.label_calls.specs.Runs.{AreOfFile, AreUncovered, HaveOnes, RelabelsRun, MadeSome, IsOneTaken, NamedSome};
 ghost use Rattle.filer_kernel.specs.Becomes.{Becomes};
-ghost use Rattle.filer_kernel.specs.Marks.{Marks, BitsAre, marked, IsLowestRun};
+ghost use Rattle.filer_kernel.specs.Marks.{Marks, BitsAre, marked, IsFreeRun};
 ghost use Rattle.file_manager.specs.Grounds.{RangeHalts, TakeHalts, MakesFor};
 ghost use Rattle.swapper_kernel.specs.Halts.{HasCause};
 ghost use Rattle.session_words.specs.Parts.{Shape, Shapes};
@@ -36,12 +36,12 @@ use label_calls::make_pages;
 use labelled_disk::{Disk, Evidence, FileId, Halt, TABLES};
 use std::alloc::Allocator;
 
-// Takes the lowest free data sector, and free ones after it, at most so many together.
+// Takes a free data sector, and free ones after it, at most so many together.
 fn take_run<D: Disk, A: Allocator>(filer: &mut Filer<D, A>, most: u32) -> Result<(u32, u32), Halt>
     requires size { FitsLayout (view_of filer.old) }
     requires some { 1 ≤ most }
-    ensures lowest { (m : List Sector) (marks : Marks) → HasMemory (view_of filer.old) m
-        → BitsAre (view_of filer.old).layout marks m → IfOk result (IsLowestRun (view_of filer.old).layout marks most) }
+    ensures free { (m : List Sector) (marks : Marks) → HasMemory (view_of filer.old) m
+        → BitsAre (view_of filer.old).layout marks m → IfOk result (IsFreeRun (view_of filer.old).layout marks most) }
     ensures taken { (m : List Sector) (marks : Marks) → HasMemory (view_of filer.old) m
         → BitsAre (view_of filer.old).layout marks m
         → IfOk result

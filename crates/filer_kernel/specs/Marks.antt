@@ -25,11 +25,19 @@ marked used first count marks sector = if nat_le first sector && nat_lt sector (
 abbrev pub AreAll : Bool → Marks → ℕ → ℕ → Type 0
 AreAll used marks from end = (sector : ℕ) → from ≤ sector → sector < end → marks sector ≡ used
 
--- The run begins with the lowest free data sector, its sectors are free, and there are no more in a row but for a most.
-pub record IsLowestRun (layout : Layout) (marks : Marks) (most : ℕ) (run : ℕ × ℕ) : Type 0 where
-  pub before : AreAll true marks layout.first run.0
+-- no data sector below this one is free
+abbrev pub NoneFreeBelow : Layout → Marks → ℕ → Type 0
+NoneFreeBelow layout marks sector = AreAll true marks layout.first sector
+
+-- The sectors of the run are free, and there are no more in a row but for a most.
+pub record IsFreeRun (layout : Layout) (marks : Marks) (most : ℕ) (run : ℕ × ℕ) : Type 0 where
   pub free : AreAll false marks run.0 (run.0 + run.1)
   pub longest : run.1 < most → run.0 + run.1 < layout.sectors → marks (run.0 + run.1) ≡ true
+
+-- No data sector below the run is free, and where the run is marked none below `now`.
+pub record IsLowestRun (layout : Layout) (marks : Marks) (now : ℕ) (run : ℕ × ℕ) : Type 0 where
+  pub before : NoneFreeBelow layout marks run.0
+  pub after : NoneFreeBelow layout (marked true run.0 run.1 marks) now
 
 -- how many data sectors are free
 abbrev pub free_sectors : Layout → Marks → ℕ

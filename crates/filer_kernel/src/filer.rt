@@ -1,17 +1,20 @@
-//! A swapper, and the runs that were found last.
+//! A swapper, the runs that were found last, and where a free sector may be.
 ghost use Rattle.std.specs.Prelude.{◌≡◌, ℕ, []};
+ghost use Rattle.filer_kernel.specs.Marks.{Marks, NoneFreeBelow};
 
 use crate::CachedRuns;
 use labelled_disk::Disk;
 use std::alloc::Allocator;
 use swapper_kernel::{LentSwapper, Swapper};
 
-/// A swapper that is held by value, and the runs of files that were found last. Every call that moves sectors asks that
-/// the disk has as many sectors as the layout: a disk or a swapper that was lent might be another one.
+/// A swapper that is held by value, the runs of files that were found last, and a sector below which no data sector is
+/// free where the allocation map is changed here alone (`NoneFreeBelow`). Every call that moves sectors asks that the disk
+/// has as many sectors as the layout: a disk or a swapper that was lent might be another one.
 #[derive(Drop)]
 pub struct Filer<D: Disk, A: Allocator> {
     pub(crate) swapper: Swapper<D, A>,
     pub(crate) runs: CachedRuns,
+    pub(crate) free_from: u32,
 }
 
 /// A filer whose disk is lent.
@@ -24,11 +27,13 @@ impl<D: Disk, A: Allocator> Filer<D, A> {
     pub fn over(swapper: Swapper<D, A>) -> Filer<D, A>
         ensures swapper { result.swapper ≡ swapper }
         ensures runs { (n : ℕ) → runs_of n result.runs ≡ [] }
+        ensures free { (marks : Marks) → NoneFreeBelow swapper.layout marks result.free_from }
     {
         let layout = swapper.layout();
         Filer {
             swapper,
             runs: CachedRuns::new(layout.sectors),
+            free_from: layout.first,
         }
     }
 
@@ -36,7 +41,11 @@ impl<D: Disk, A: Allocator> Filer<D, A> {
     pub fn into_swapper(self) -> Swapper<D, A>
         ensures { result ≡ self.swapper }
     {
-        let Filer { swapper, runs: _ } = self;
+        let Filer {
+            swapper,
+            runs: _,
+            free_from: _,
+        } = self;
         swapper
     }
 
@@ -76,6 +85,7 @@ impl<'d, D: Disk, A: Allocator> Filer<&'d mut D, A> {
     pub fn new(swapper: LentSwapper<'d, D, A>) -> LentFiler<'d, D, A>
         ensures swapper { result.swapper ≡ swapper.entry }
         ensures runs { (n : ℕ) → runs_of n result.runs ≡ [] }
+        ensures free { (marks : Marks) → NoneFreeBelow swapper.entry.layout marks result.free_from }
     {
         Filer::over(swapper)
     }

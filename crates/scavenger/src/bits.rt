@@ -18,7 +18,7 @@ fn mark_all<A: Allocator>(map: &mut VecMem<A>, sectors: u32)
     requires zeros { vec_mem_bytes map.old ≡ replicate (512 * vam sectors) 0 }
     ensures { IsMarked true (vec_mem_bytes map.old) (vec_mem_bytes map.new) 0 sectors }
 {
-    match AllocMap::<&mut VecMem<A>>::over(map, 0, sectors).take(sectors) {
+    match AllocMap::<&mut VecMem<A>>::over(map, 0, sectors).take(0, sectors) {
         Ok(_) => {}
         Err(AllocError::NoRoom) => unreachable!(),
         Err(AllocError::Mem(never)) => match never {},

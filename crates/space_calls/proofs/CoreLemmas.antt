@@ -9,9 +9,9 @@ use Rattle.fault_core.specs.Kept.{AreFormed, are_formed_once}
 
 -- its swapper is the same
 pub same_swapper : {D A : Type 0} {disk : Ghosts D} (s : Swapper D A disk) (c : Core D A disk) (a : 1 ≤ c.intervals) (b : c.intervals ≤ 1023) (e : AreFormed (kept_in c.descriptors)) → s ≡ c.filer.swapper
-    → ◌≡◌ {A = Core D A disk} (record { filer = record { swapper = s; runs = c.filer.runs }; descriptors = c.descriptors; intervals = c.intervals; some = a; few = b; formed = e }) c
+    → ◌≡◌ {A = Core D A disk} (record { filer = record c.filer { swapper = s }; descriptors = c.descriptors; intervals = c.intervals; some = a; few = b; formed = e }) c
 same_swapper s c a b e same i = record {
-  filer = record { swapper = same i; runs = c.filer.runs };
+  filer = record c.filer { swapper = same i };
   descriptors = c.descriptors;
   intervals = c.intervals;
   some = le_prop a c.some i;

@@ -132,7 +132,7 @@ impl<D: Disk, A: Allocator> BookOver<D, A> {
             first,
             sectors,
         );
-        map.take(most)
+        map.take(first, most)
     }
 
     /// Gives sectors back.

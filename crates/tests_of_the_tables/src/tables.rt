@@ -68,7 +68,7 @@ fn the_highest_bit_of_a_byte_is_its_first_sector(rt: HostRuntime) -> Result<(), 
     let _ = mem.write(0, &[255, 255, 255, 255, 240, 1]);
     let mut map = AllocMap::over(mem, 36, 5000);
     for (most, run) in [(3, (36, 3)), (20, (39, 8)), (20, (48, 20))] {
-        assert!(rt; map.take(most).ok() == Some(run));
+        assert!(rt; map.take(36, most).ok() == Some(run));
     }
     Ok(())
 }

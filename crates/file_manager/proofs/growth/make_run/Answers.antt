@@ -46,11 +46,11 @@ returns-in-Err-label_run-clause-made g c = λ tables x shapes spaces books hidde
     let marks = marks_shown layout is runs shapes x books.booked in
     let bits = bits_shown layout is runs shapes x books.booked in
     let run = row_run c.args.id c.args.page c.in-Ok.taken.0 c.in-Ok.taken.1 in
-    let lowest = c.in-Ok.ensures.lowest x marks books.stands bits in
+    let run_free = c.in-Ok.ensures.free x marks books.stands bits in
     let taken = c.in-Ok.ensures.taken x marks books.stands bits in
     c.in-Err-label_run.ensures.sound taken.memory taken.stands
-    (none_over layout is kept shapes spaces x _ _ books hidden run c.args.most _ _ _ c.in-Ok.ensures.stays.kept c.in-Ok.ensures.form lowest taken)
-    (ones_free layout is kept shapes spaces x _ _ books hidden run c.args.most _ _ _ c.in-Ok.ensures.stays.kept c.in-Ok.ensures.form lowest taken)
+    (none_over layout is kept shapes spaces x _ _ books hidden run c.args.most _ _ _ c.in-Ok.ensures.stays.kept c.in-Ok.ensures.form run_free taken)
+    (ones_free layout is kept shapes spaces x _ _ books hidden run c.args.most _ _ _ c.in-Ok.ensures.stays.kept c.in-Ok.ensures.form run_free taken)
 
 pub returns-in-Err-label_run-clause-writes : goal.returns-in-Err-label_run-clause-writes
 returns-in-Err-label_run-clause-writes g c =
@@ -74,17 +74,17 @@ returns-in-Err-add-clause-made g c = λ tables x shapes spaces books hidden unow
     let marks = marks_shown layout is runs shapes x books.booked in
     let bits = bits_shown layout is runs shapes x books.booked in
     let run = row_run c.args.id c.args.page c.in-Ok.taken.0 c.in-Ok.taken.1 in
-    let lowest = c.in-Ok.ensures.lowest x marks books.stands bits in
+    let run_free = c.in-Ok.ensures.free x marks books.stands bits in
     let taken = c.in-Ok.ensures.taken x marks books.stands bits in
     let frames = c.in-Ok-label_run.ensures.stays.frames in
     let lay : (view_of c.label_run.new.filer).layout ≡ layout = c.in-Ok-label_run.ensures.stays.layout ∙ c.in-Ok.ensures.stays.kept.layout in
     let made = c.in-Ok-label_run.ensures.writes.0 in
-    let mid = labelled layout is kept shapes spaces x _ _ books hidden run c.args.most _ _ _ c.in-Ok.ensures.stays.kept c.in-Ok.ensures.form lowest taken c.args.kind _ made in
+    let mid = labelled layout is kept shapes spaces x _ _ books hidden run c.args.most _ _ _ c.in-Ok.ensures.stays.kept c.in-Ok.ensures.form run_free taken c.args.kind _ made in
     let few = c.in-Ok.ensures.form.few in
     (rw (frames, lay) at c.in-Err-add.ensures.sound) mid.0 books.booked.named (is_marked x) mid.1
-    (map_then layout is kept shapes spaces x _ _ books hidden run c.args.most _ _ _ c.in-Ok.ensures.stays.kept c.in-Ok.ensures.form lowest taken c.args.kind _ made)
+    (map_then layout is kept shapes spaces x _ _ books hidden run c.args.most _ _ _ c.in-Ok.ensures.stays.kept c.in-Ok.ensures.form run_free taken c.args.kind _ made)
     (new_run layout is runs shapes x books.booked c.args.id c.args.page c.in-Ok.taken.1 c.in-Ok.taken.0 (λ p above below. unowned p above (omega (arith, below, few))))
-    (named_then layout is kept shapes spaces x _ _ books hidden run c.args.most _ _ _ c.in-Ok.ensures.stays.kept c.in-Ok.ensures.form lowest taken c.args.kind _ made)
+    (named_then layout is kept shapes spaces x _ _ books hidden run c.args.most _ _ _ c.in-Ok.ensures.stays.kept c.in-Ok.ensures.form run_free taken c.args.kind _ made)
     (named_once layout is runs shapes x books.booked) (named_marked layout is runs shapes x books.booked) (room_left layout is runs shapes x books.booked some)
 
 pub returns-in-Err-add-clause-writes : goal.returns-in-Err-add-clause-writes
@@ -100,18 +100,18 @@ returns-clause-made g c = λ tables x shapes spaces books hidden unowned some.
     let marks = marks_shown layout is runs shapes x books.booked in
     let bits = bits_shown layout is runs shapes x books.booked in
     let run = row_run c.args.id c.args.page c.in-Ok.taken.0 c.in-Ok.taken.1 in
-    let lowest = c.in-Ok.ensures.lowest x marks books.stands bits in
+    let run_free = c.in-Ok.ensures.free x marks books.stands bits in
     let taken = c.in-Ok.ensures.taken x marks books.stands bits in
     let frames = c.in-Ok-label_run.ensures.stays.frames in
     let lay : (view_of c.label_run.new.filer).layout ≡ layout = c.in-Ok-label_run.ensures.stays.layout ∙ c.in-Ok.ensures.stays.kept.layout in
     let made = c.in-Ok-label_run.ensures.writes.0 in
-    let mid = labelled layout is kept shapes spaces x _ _ books hidden run c.args.most _ _ _ c.in-Ok.ensures.stays.kept c.in-Ok.ensures.form lowest taken c.args.kind _ made in
+    let mid = labelled layout is kept shapes spaces x _ _ books hidden run c.args.most _ _ _ c.in-Ok.ensures.stays.kept c.in-Ok.ensures.form run_free taken c.args.kind _ made in
     let few = c.in-Ok.ensures.form.few in
     let added = (rw (frames, lay) at c.in-Ok-add.ensures.added) mid.0 books.booked.named mid.1
-    (map_then layout is kept shapes spaces x _ _ books hidden run c.args.most _ _ _ c.in-Ok.ensures.stays.kept c.in-Ok.ensures.form lowest taken c.args.kind _ made)
+    (map_then layout is kept shapes spaces x _ _ books hidden run c.args.most _ _ _ c.in-Ok.ensures.stays.kept c.in-Ok.ensures.form run_free taken c.args.kind _ made)
     (new_run layout is runs shapes x books.booked c.args.id c.args.page c.in-Ok.taken.1 c.in-Ok.taken.0 (λ p above below. unowned p above (omega (arith, below, few)))) in
     rw c.frames_of.ensures.same
-    (run_leads layout is kept shapes spaces x _ _ books hidden run c.args.most _ _ _ c.in-Ok.ensures.stays.kept c.in-Ok.ensures.form lowest taken c.args.kind _ made
+    (run_leads layout is kept shapes spaces x _ _ books hidden run c.args.most _ _ _ c.in-Ok.ensures.stays.kept c.in-Ok.ensures.form run_free taken c.args.kind _ made
     _ _ _ c.add.new.self.runs (c.in-Ok-add.ensures.runs ∙ c.in-Ok-label_run.ensures.stays.runs ∙ c.in-Ok.ensures.stays.runs) (rw (frames, lay) at c.in-Ok-add.ensures.beside) added
     (λ y stands. memory_in_form _ _ y stands (g.met.D.Disk.in_form (disk_of c.add.new.self) stands.sectors stands.revealed) c.frames_of.ensures.pages))
 
@@ -131,7 +131,7 @@ returns-clause-run g c =
         same_first = refl;
         few = c.in-Ok.ensures.form.few;
       },
-      λ few m marks stands bits below. (c.in-Ok.ensures.lowest m marks stands bits).longest few below,
+      λ few m marks stands bits below. (c.in-Ok.ensures.free m marks stands bits).longest few below,
       rw c.frames_of.ensures.same (made_run is run c.args.kind c.args.most c.in-Ok.ensures.form kept c.in-Ok.ensures.taken c.in-Ok-label_run.ensures.writes.0 c.in-Ok-label_run.ensures.writes.1 beside added),
     )
 
@@ -152,10 +152,10 @@ returns-in-Err-label_run-clause-broken g c = λ tables x shapes spaces books hid
     let marks = marks_shown layout is runs shapes x books.booked in
     let bits = bits_shown layout is runs shapes x books.booked in
     let run = row_run c.args.id c.args.page c.in-Ok.taken.0 c.in-Ok.taken.1 in
-    let lowest = c.in-Ok.ensures.lowest x marks books.stands bits in
+    let run_free = c.in-Ok.ensures.free x marks books.stands bits in
     let taken = c.in-Ok.ensures.taken x marks books.stands bits in
     labels_grew run c.args.kind c.in-Ok.ensures.stays.kept c.in-Err-label_run.ensures.stays.frames c.in-Ok.ensures.form.few
-    (row_was_free layout is kept shapes spaces x _ _ books hidden run c.args.most _ _ _ c.in-Ok.ensures.stays.kept c.in-Ok.ensures.form lowest taken c.args.kind) c.in-Err-label_run.ensures.writes.0
+    (row_was_free layout is kept shapes spaces x _ _ books hidden run c.args.most _ _ _ c.in-Ok.ensures.stays.kept c.in-Ok.ensures.form run_free taken c.args.kind) c.in-Err-label_run.ensures.writes.0
 
 pub returns-in-Err-add-clause-broken : goal.returns-in-Err-add-clause-broken
 returns-in-Err-add-clause-broken g c = λ tables x shapes spaces books hidden unowned some.
@@ -166,17 +166,17 @@ returns-in-Err-add-clause-broken g c = λ tables x shapes spaces books hidden un
     let marks = marks_shown layout is runs shapes x books.booked in
     let bits = bits_shown layout is runs shapes x books.booked in
     let run = row_run c.args.id c.args.page c.in-Ok.taken.0 c.in-Ok.taken.1 in
-    let lowest = c.in-Ok.ensures.lowest x marks books.stands bits in
+    let run_free = c.in-Ok.ensures.free x marks books.stands bits in
     let taken = c.in-Ok.ensures.taken x marks books.stands bits in
     all_grew run c.args.kind c.in-Ok.ensures.stays.kept c.in-Ok-label_run.ensures.stays.frames c.in-Ok.ensures.form.few
-    (row_was_free layout is kept shapes spaces x _ _ books hidden run c.args.most _ _ _ c.in-Ok.ensures.stays.kept c.in-Ok.ensures.form lowest taken c.args.kind) c.in-Ok-label_run.ensures.writes.0 c.in-Err-add.ensures.beside
+    (row_was_free layout is kept shapes spaces x _ _ books hidden run c.args.most _ _ _ c.in-Ok.ensures.stays.kept c.in-Ok.ensures.form run_free taken c.args.kind) c.in-Ok-label_run.ensures.writes.0 c.in-Err-add.ensures.beside
 
 pub returns-in-Err-label_run-clause-fails : goal.returns-in-Err-label_run-clause-fails
 returns-in-Err-label_run-clause-fails g c = record {
   cause =
       let form = c.in-Ok.ensures.form in
       let pages = λ (p : ℕ). (c.args.page ≤ p) × (p < c.args.page + c.args.most) in
-      label_halts c.in-Ok.ensures.stays.kept c.in-Ok.taken.0 c.in-Ok.taken.1 form.above form.inside (λ m marks stands bits. (c.in-Ok.ensures.lowest m marks stands bits).free) c.args.id pages pages (view_of c.label_run.new.filer).disk (view_of c.label_run.new.filer).slots c.in-Err-label_run.halt c.in-Err-label_run.ensures.fails.cause;
+      label_halts c.in-Ok.ensures.stays.kept c.in-Ok.taken.0 c.in-Ok.taken.1 form.above form.inside (λ m marks stands bits. (c.in-Ok.ensures.free m marks stands bits).free) c.args.id pages pages (view_of c.label_run.new.filer).disk (view_of c.label_run.new.filer).slots c.in-Err-label_run.halt c.in-Err-label_run.ensures.fails.cause;
   counted = counted_then _ _ _ c.in-Ok.ensures.stays.kept.goes.makes.went.faults c.in-Err-label_run.ensures.fails.counted;
   evidence_seen = search rules;
 }
@@ -252,7 +252,7 @@ returns-in-Err-label_run-clause-accounts g c = λ o named h nothing.
     let form = c.in-Ok.ensures.form in
     let run = row_run c.args.id c.args.page c.in-Ok.taken.0 c.in-Ok.taken.1 in
     let some = c.in-Err-label_run.ensures.writes.1 in
-    label_reasons_taken h kept run c.args.kind some form.above form.inside (λ m marks stands bits. (c.in-Ok.ensures.lowest m marks stands bits).free)
+    label_reasons_taken h kept run c.args.kind some form.above form.inside (λ m marks stands bits. (c.in-Ok.ensures.free m marks stands bits).free)
     (some_labelled run c.args.kind kept c.in-Err-label_run.ensures.stays.frames (record { count = some.count; within = some.within; makes = some.makes }))
     c.in-Err-label_run.halt c.in-Err-label_run.ensures.fails.cause
 

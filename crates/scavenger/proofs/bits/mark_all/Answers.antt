@@ -18,7 +18,7 @@ returns g c =
     let marked = c.in-Ok.ensures.taken (vec_mem_bytes c.over.result.mem.now) refl in
     let free : (i : ℕ) → is_used (vec_mem_bytes c.over.result.mem.now) i ≡ false =
     λ i. ap (λ (b : List ℕ). is_used b i) (same ∙ c.requires.zeros) ∙ zeros_free (512 * vam c.args.sectors) i in
-    let lowest = c.in-Ok.ensures.lowest (vec_mem_bytes c.over.result.mem.now) refl in
+    let lowest = c.in-Ok.ensures.lowest (vec_mem_bytes c.over.result.mem.now) refl (λ s above below. absurd (omega (arith, below))) in
     let run = whole_run c.args.sectors (vec_mem_bytes c.over.result.mem.now) c.in-Ok.field-0 free
     (rw (c.over.ensures.first, c.over.ensures.sectors) at lowest)
     (rw c.over.ensures.sectors at (c.in-Ok.ensures.longest (vec_mem_bytes c.over.result.mem.now) refl))

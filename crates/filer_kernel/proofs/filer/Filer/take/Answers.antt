@@ -13,23 +13,23 @@ use Rattle.filer_kernel.proofs.filer.Filer.take.Goals as goal
 
 pub returns-clause-sound : goal.returns-clause-sound
 returns-clause-sound g c = λ m stands named.
-    err_wider c.take.result _ (IfMem (λ e. e ≡ halt.Disk)) (λ e is. mem_wider _ (λ h. h ≡ halt.Disk) (λ h acc. acc.sound m stands named) e is)
-    (rw (c.over-map.ensures.memory, c.map_memory.ensures.value, c.map_memory.ensures.which) at c.take.ensures.cause)
+    err_wider c.take-answer.result _ (IfMem (λ e. e ≡ halt.Disk)) (λ e is. mem_wider _ (λ h. h ≡ halt.Disk) (λ h acc. acc.sound m stands named) e is)
+    (rw (c.over-map.ensures.memory, c.map_memory.ensures.value, c.map_memory.ensures.which) at c.take-answer.ensures.cause)
 
 pub returns-clause-taken : goal.returns-clause-taken
 returns-clause-taken g c = λ m marks stands bits.
     let x = c.args.self.now.swapper.layout in
     let revealed = bits_revealed c.requires.size m marks stands bits in
-    let which = rw (c.over-map.ensures.memory, c.map_memory.ensures.which) at c.take.ensures.kept.1 in
-    let kept = rw (c.over-map.ensures.memory, c.map_memory.ensures.value, c.map_memory.ensures.which) at c.take.ensures.kept.2 in
-    lent (λ d s. IfOk c.take.result (λ run. Becomes AllocationMap x m (BitsAre x (marked true run.0 run.1 marks)) d s)) _ (g.D.Disk.state c.take.new.self.mem.swapper.now.disk) _ c.take.new.self.mem.swapper.now.pool (search rules) (search rules)
-    (ok_wider c.take.result _ _ (λ run is. becomes_marked true which kept m marks stands bits run.0 run.1 is)
-    (c.take.ensures.taken bits.bytes (rw (c.over-map.ensures.memory, c.map_memory.ensures.value, c.map_memory.ensures.which) revealed)))
+    let which = rw (c.over-map.ensures.memory, c.map_memory.ensures.which) at c.take-answer.ensures.kept.1 in
+    let kept = rw (c.over-map.ensures.memory, c.map_memory.ensures.value, c.map_memory.ensures.which) at c.take-answer.ensures.kept.2 in
+    lent (λ d s. IfOk c.take-answer.result (λ run. Becomes AllocationMap x m (BitsAre x (marked true run.0 run.1 marks)) d s)) _ (g.D.Disk.state c.take-answer.new.self.mem.swapper.now.disk) _ c.take-answer.new.self.mem.swapper.now.pool (search rules) (search rules)
+    (ok_wider c.take-answer.result _ _ (λ run is. becomes_marked true which kept m marks stands bits run.0 run.1 is)
+    (c.take-answer.ensures.taken bits.bytes (rw (c.over-map.ensures.memory, c.map_memory.ensures.value, c.map_memory.ensures.which) revealed)))
 
 pub returns-clause-same : goal.returns-clause-same
 returns-clause-same g c = λ m marks stands bits full.
     let revealed = bits_revealed c.requires.size m marks stands bits in
-    let which = rw (c.over-map.ensures.memory, c.map_memory.ensures.which) at c.take.ensures.kept.1 in
-    let kept = rw (c.over-map.ensures.memory, c.map_memory.ensures.value, c.map_memory.ensures.which) at c.take.ensures.kept.2 in
-    lent (λ d s. Stands d s m) _ (g.D.Disk.state c.take.new.self.mem.swapper.now.disk) _ c.take.new.self.mem.swapper.now.pool (search rules) (search rules)
-    (stays_shown which kept m stands bits.bytes bits.shows (c.take.ensures.unchanged bits.bytes (rw (c.over-map.ensures.memory, c.map_memory.ensures.value, c.map_memory.ensures.which) revealed) full))
+    let which = rw (c.over-map.ensures.memory, c.map_memory.ensures.which) at c.take-answer.ensures.kept.1 in
+    let kept = rw (c.over-map.ensures.memory, c.map_memory.ensures.value, c.map_memory.ensures.which) at c.take-answer.ensures.kept.2 in
+    lent (λ d s. Stands d s m) _ (g.D.Disk.state c.take-answer.new.self.mem.swapper.now.disk) _ c.take-answer.new.self.mem.swapper.now.pool (search rules) (search rules)
+    (stays_shown which kept m stands bits.bytes bits.shows (c.take-answer.ensures.unchanged bits.bytes (rw (c.over-map.ensures.memory, c.map_memory.ensures.value, c.map_memory.ensures.which) revealed) full))
