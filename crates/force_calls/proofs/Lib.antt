@@ -1,2 +1,4 @@
 pub mod RunLemmas
 pub mod LoopLemmas
+pub mod ForceLemmas
+pub mod MarkLemmas

@@ -1,104 +1,19 @@
 -- One look after the other.
-use Rattle.std.specs.Prelude.{◌≡◌, ◌≢◌, ◌+◌, ◌<◌, ◌≤◌, ℕ, Bool, true, false, [], length, Option, Some, None, slice_get, slice_set}
-use Rattle.std.proofs.Common.{refl, sym, ◌∙◌, ap, arith, inl, inr}
+use Rattle.std.specs.Prelude.{◌≡◌, ◌+◌, ◌<◌, ◌≤◌, ℕ, Bool, true, false, [], length, Option, Some, None, slice_get, slice_set}
+use Rattle.std.proofs.Common.{sym, ◌∙◌, ap, subst, arith, inl, inr}
 use Rattle.std.proofs.lemmas.Bool.{cases_eq}
 use Rattle.std.proofs.lemmas.Bool.Decides.{nat_tests}
 use Rattle.std.proofs.lemmas.Option.{same_Some, none-some}
 use Rattle.labelled_disk.specs.declared.label.Label.{Label}
-use Rattle.labelled_disk.specs.declared.layout.Layout.{Layout}
 use Rattle.labelled_disk.specs.State.{DiskState}
-use Rattle.frame_pool.specs.Frames.{Frame, Slots, Has, IsWithin, is_kept, clean, cleaned_at}
-use Rattle.frame_pool.specs.FrameLaws.{has_set, has_below, cleaned_is}
+use Rattle.frame_pool.specs.Frames.{Frame, Slots, Has, IsWithin, is_kept}
+use Rattle.frame_pool.specs.FrameLaws.{has_set, has_below}
 use Rattle.swapper_kernel.specs.Goes.{Goes, Swaps, no_page}
 use Rattle.swapper_kernel.specs.GoesLaws.{swaps_itself, swaps_then, goes_itself, goes_then, goes_wider}
-use Rattle.swapper_kernel.specs.Homes.{no_home}
-use Rattle.swapper_kernel.specs.Steps.{Steps}
-use Rattle.swapper_kernel.specs.CourseLaws.{steps_itself, steps_then}
 use Rattle.swapper_kernel.specs.Differs.{Differs, of_run}
 use Rattle.swapper_kernel.specs.DiffersLaws.{differs_itself, differs_then, differs_wider}
-use Rattle.force_calls.specs.Run.{OnlyRun, dirty_count, look_at, looks_of}
-use Rattle.force_calls.proofs.RunLemmas.{only_run_itself, only_run_then, cleaned_only, cleaned_count, cleared_only, kept_within, same_frame}
-
--- What was done at one slot, with a page of the run.
-pub record Passes (id first pages : ℕ) (k : ℕ) (b : DiskState) (t : Slots) (c : DiskState) (u : Slots) : Type 0 where
-  pub swaps : Swaps b t c u
-  pub steps : Steps no_home no_home b t c u
-  pub run : OnlyRun id first pages t u
-  pub others : (j : ℕ) (f : Frame) → j ≢ k → Has u j f → Has t j f
-  pub cost : c.transfers + dirty_count id first pages u ≤ b.transfers + dirty_count id first pages t
-
-module _ (id first pages : ℕ) (b c : DiskState) (t u : Slots) (k : ℕ) (f : Frame) (has : Has t k f) (kept : is_kept id first pages (Some f) ≡ true) (swaps : Swaps b t c u) (steps : Steps no_home no_home b t c u) where
-  -- it was written out
-  pub passes_written : f.dirty ≡ true → u ≡ cleaned_at t k → c.transfers ≤ b.transfers + 1 → Passes id first pages k b t c u
-  passes_written dirty is one = record {
-    swaps = swaps;
-    steps = steps;
-    run = cleaned_only id first pages t u k f has kept is;
-    others = λ j g apart g_has. elim (has_set t k j (Some (clean f)) g (has_below t k f has) (record { is = ap (λ (l : Slots). slice_get l j) (sym (is ∙ cleaned_is t k f has)) ∙ g_has.is })) [
-      | inl (same, _) ↦ absurd (apart same)
-      | inr (_, was) ↦ was
-    ];
-    cost = let fewer = cleaned_count id first pages t u k f has kept dirty is in omega (arith, fewer, one);
-  }
-
--- The first k looks were made: P holds of each frame of the run that they find.
-pub record IsPassing (P : Frame → Type 0) (by_page : Bool) (id first pages : ℕ) (a : DiskState) (s : Slots) (place : Layout) (b : DiskState) (t : Slots) (later : Layout) (k : ℕ) : Type 0 where
-  pub swaps : Swaps a s b t
-  pub steps : Steps no_home no_home a s b t
-  pub run : OnlyRun id first pages s t
-  pub past : (i : ℕ) (f : Frame) → look_at by_page first i f.home < k → Has t i f → IsWithin id first pages f.home → P f
-  pub same_place : later ≡ place
-  pub size : b.sectors ≡ later.sectors
-  pub cost : b.transfers + dirty_count id first pages t ≤ a.transfers + dirty_count id first pages s
-
-pub passing_none : (P : Frame → Type 0) (by_page : Bool) (id first pages : ℕ) (a : DiskState) (s : Slots) (place : Layout) → a.sectors ≡ place.sectors → IsPassing P by_page id first pages a s place a s place 0
-passing_none P by_page id first pages a s place size = record {
-  swaps = swaps_itself a s;
-  steps = steps_itself no_home no_home a s;
-  run = only_run_itself id first pages s;
-  past = λ i f below has within. absurd (omega (arith, below));
-  same_place = refl;
-  size = size;
-  cost = omega arith;
-}
-
--- what the look finds needs nothing
-pub passing_on : {P : Frame → Type 0} {by_page : Bool} {id first pages : ℕ} {a : DiskState} {s : Slots} {place : Layout} {b : DiskState} {t : Slots} {later : Layout} {k : ℕ}
-    → IsPassing P by_page id first pages a s place b t later k → ((i : ℕ) (f : Frame) → Has t i f → IsWithin id first pages f.home → look_at by_page first i f.home ≡ k → P f)
-    → IsPassing P by_page id first pages a s place b t later (k + 1)
-passing_on {by_page = by_page} {first = first} {k = k} h here = record {
-  swaps = h.swaps;
-  steps = h.steps;
-  run = h.run;
-  past = λ i f below has within. elim (cases_eq (look_at by_page first i f.home) k) [
-    | inl same ↦ here i f has within same
-    | inr other ↦ h.past i f (omega (arith, below, other)) has within
-  ];
-  same_place = h.same_place;
-  size = h.size;
-  cost = h.cost;
-}
-
--- something was done at the slot that the look finds
-pub passing_more : {P : Frame → Type 0} {by_page : Bool} {id first pages : ℕ} {a : DiskState} {s : Slots} {place : Layout} {b : DiskState} {t : Slots} {later : Layout} {k : ℕ}
-    → IsPassing P by_page id first pages a s place b t later k → {c : DiskState} {u : Slots} (last : Layout) (slot : ℕ) → Passes id first pages slot b t c u → last ≡ later
-    → ((f : Frame) → Has u slot f → P f) → ((i : ℕ) (f : Frame) → Has t i f → IsWithin id first pages f.home → look_at by_page first i f.home ≡ k → i ≡ slot)
-    → IsPassing P by_page id first pages a s place c u last (k + 1)
-passing_more {by_page = by_page} {first = first} {k = k} h {u = u} last slot n layout here only = record {
-  swaps = swaps_then h.swaps n.swaps;
-  steps = steps_then h.steps n.steps;
-  run = only_run_then h.run n.run;
-  past = λ i f below has within. elim (cases_eq i slot) [
-    | inl same ↦ here f (record { is = ap (slice_get u) (sym same) ∙ has.is })
-    | inr other ↦ elim (cases_eq (look_at by_page first i f.home) k) [
-      | inl looked ↦ absurd (other (only i f (n.others i f other has) within looked))
-      | inr earlier ↦ h.past i f (omega (arith, below, earlier)) (n.others i f other has) within
-    ]
-  ];
-  same_place = layout ∙ h.same_place;
-  size = cc (n.swaps.makes.went.sectors, h.size, layout);
-  cost = omega (arith, h.cost, n.cost);
-}
+use Rattle.force_calls.specs.Run.{OnlyRun, look_at, looks_of}
+use Rattle.force_calls.proofs.RunLemmas.{only_run_itself, only_run_then, cleared_only, kept_within, same_frame}
 
 -- Frames of the run that the first k looks find were given up, and the memory may have lost these pages' bytes.
 pub record IsForgetting (by_page : Bool) (id first pages : ℕ) (a : DiskState) (s : Slots) (b : DiskState) (t : Slots) (k : ℕ) : Type 0 where
@@ -159,6 +74,10 @@ forgetting_more {by_page = by_page} {id = id} {first = first} {pages = pages} {t
         ]
       ];
     }
+
+-- A look is one of those of now, which are as many as there were.
+pub look_below : (by_page : Bool) (pages : ℕ) (s t : Slots) (look n : ℕ) → length t ≡ length s → n ≡ looks_of by_page pages (length s) → look < n → look < looks_of by_page pages (length t)
+look_below by_page pages s t look n same is below = subst (λ (k : ℕ). look < looks_of by_page pages k) (sym same) (subst (λ (k : ℕ). look < k) is below)
 
 -- Each frame of the run is found by one of the looks.
 pub found_below : (by_page : Bool) (id first pages : ℕ) (s t : Slots) (i k n : ℕ) (f : Frame) → length t ≡ length s → n ≡ looks_of by_page pages (length s) → n ≤ k → Has t i f → IsWithin id first pages f.home → look_at by_page first i f.home < k

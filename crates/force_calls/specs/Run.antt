@@ -1,10 +1,14 @@
 -- Frames of a run of a file's pages.
-use Rattle.std.specs.Prelude.{◌≡◌, ◌+◌, ◌-◌, ◌&&◌, ℕ, Bool, false, if◌then◌else◌, [], ◌∷◌, Option, Some, None, slice_get}
+use Rattle.std.specs.Prelude.{◌≡◌, ◌+◌, ◌-◌, ◌&&◌, ◌==◌, nat_le, nat_lt, ℕ, Bool, false, if◌then◌else◌, [], ◌∷◌, Option, Some, None, slice_get}
 use Rattle.labelled_disk.specs.State.{DiskState}
 use Rattle.frame_pool.specs.declared.home.Home.{Home}
 use Rattle.frame_pool.specs.Frames.{Frame, Slots, Has, IsOutside, IsWithin, is_kept}
 use Rattle.swapper_kernel.specs.Homes.{no_home}
 use Rattle.swapper_kernel.specs.Steps.{Steps}
+
+-- whether the home is that of a page of the run
+abbrev pub is_within : ℕ → ℕ → ℕ → Home → Bool
+is_within id first pages home = (home.id == id) && nat_le first home.page && nat_lt (home.page - first) pages
 
 -- where the frame is of the run, whether it is dirty
 abbrev pub dirty_within : ℕ → ℕ → ℕ → Option Frame → Option Bool

@@ -12,6 +12,7 @@ ghost use Rattle.swapper_kernel.specs.Steps.{Steps};
 ghost use Rattle.force_calls.specs.Run.{Evicts, OnlyRun, Stay, dirty_count};
 
 use crate::run::Run;
+use crate::writing::{write_each, write_marked};
 use labelled_disk::{Disk, FileId, Halt};
 use std::alloc::Allocator;
 use swapper_kernel::Swapper;
@@ -40,16 +41,11 @@ pub fn flush<D: Disk, A: Allocator>(
         pages swapper.old.pool }
 {
     let run = Run { id, first, pages };
-    let slots = swapper.frames().frames();
-    let by_page = run.is_short(slots);
-    for look in 0..run.looks(by_page, slots) {
-        if let Some((slot, dirty)) = run.held_at(swapper.frames(), by_page, look) {
-            if dirty {
-                swapper.write_out(slot)?;
-            }
-        }
+    if run.is_long(swapper.frames().frames()) {
+        write_marked(swapper, &run)
+    } else {
+        write_each(swapper, &run)
     }
-    Ok(())
 }
 
 /// Gives up each frame of these pages of a file. What is dirty is written out first.

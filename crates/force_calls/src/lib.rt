@@ -2,6 +2,8 @@
 #![tactic(auto)]
 
 mod calls;
+mod marks;
 mod run;
+mod writing;
 
 pub use calls::{discard, evict, flush};

@@ -1,0 +1,7 @@
+use Rattle.std.proofs.Common.{true}
+use Rattle.force_calls.proofs.ForceLemmas.{IsForcing}
+use Rattle.force_calls.proofs.writing.write_marked.Given as goal
+
+abbrev pub invariant-loop-place : goal.invariant-loop-place
+invariant-loop-place g l =
+    IsForcing true l.run.id l.run.first l.run.pages (g.D.Disk.state l.fn.swapper.disk) l.fn.swapper.pool l.fn.swapper.layout (g.D.Disk.state l.swapper.disk) l.swapper.pool l.swapper.layout l.place
