@@ -64,13 +64,14 @@ impl<D: Disk + Drop, A: Allocator> Engine<D, A> {
     // Loads the piece after the first bytes, which need not be ready, and says how long it is.
     fn fetch_next(&mut self, address: u32, into: &mut [u8], done: usize) -> Result<usize, Code>
         requires { done < length into.old }
-        ensures more { IfOk result (λ n. (1 ≤ n) × (done + n ≤ length into.old)) }
+        ensures more { IfOk result (λ n. (1 ≤ n) × (done + n ≤ length into.old)
+            × (done + n < length into.old → (address + done + n) % 512 ≡ 0)) }
         ensures loaded { (m : Machine) → StandsFor self.old m → AreAt m address done into.old
             → IfOk result (λ n. AreAt m address (done + n) into.new) }
         ensures still { (m : Machine) → StandsFor self.old m
             → StandsFor self.new m ⊎ (result ≡ Err (Code.Halted halt.Disk)) }
-        ensures rest { IfOk result (λ n. (k : ℕ) → done + n ≤ k → slice_get into.new k ≡ slice_get into.old k) }
-        ensures other { OnErr result (into.new ≡ into.old) }
+        ensures rest { IfOk result (λ n. (k : ℕ) → done + n ≤ k → slice_get into.new k ≡ slice_get into.old k)
+            × OnErr result (into.new ≡ into.old) }
         ensures stops { (m : Machine) → StandsFor self.old m → address + done < 2 ^ 32
             → IfErr result (StopsLoad m (address + done) (length into.old - done)) }
         ensures closed { IsClosed self.old → address + done < 2 ^ 32
@@ -80,7 +81,6 @@ impl<D: Disk + Drop, A: Allocator> Engine<D, A> {
             → Between (λ before after. Rose before.faults after.faults) self.old self.new }
         ensures leaves { (m : Machine) → StandsFor self.old m → Leaves (λ d. RevealsSettled d m) self.old self.new }
         ensures faults { OnOk result (LosesNoFault self.old self.new) }
-        ensures ends { IfOk result (λ n. done + n < length into.old → (address + done + n) % 512 ≡ 0) }
         ensures spends { Spends 0 1 self.old self.new }
     {
         let Some(at) = address_after(address, done) else {
@@ -96,13 +96,14 @@ impl<D: Disk + Drop, A: Allocator> Engine<D, A> {
     // Loads bytes after the first ones, and says how many: those that are ready, or else one piece.
     fn load_next(&mut self, address: u32, into: &mut [u8], done: usize) -> Result<usize, Code>
         requires { done < length into.old }
-        ensures more { IfOk result (λ n. (1 ≤ n) × (done + n ≤ length into.old)) }
+        ensures more { IfOk result (λ n. (1 ≤ n) × (done + n ≤ length into.old)
+            × (done + n < length into.old → (address + done + n) % 512 ≡ 0)) }
         ensures loaded { (m : Machine) → StandsFor self.old m → AreAt m address done into.old
             → IfOk result (λ n. AreAt m address (done + n) into.new) }
         ensures still { (m : Machine) → StandsFor self.old m
             → StandsFor self.new m ⊎ (result ≡ Err (Code.Halted halt.Disk)) }
-        ensures rest { IfOk result (λ n. (k : ℕ) → done + n ≤ k → slice_get into.new k ≡ slice_get into.old k) }
-        ensures other { OnErr result (into.new ≡ into.old) }
+        ensures rest { IfOk result (λ n. (k : ℕ) → done + n ≤ k → slice_get into.new k ≡ slice_get into.old k)
+            × OnErr result (into.new ≡ into.old) }
         ensures stops { (m : Machine) → StandsFor self.old m → address + done < 2 ^ 32
             → IfErr result (StopsLoad m (address + done) (length into.old - done)) }
         ensures closed { IsClosed self.old → address + done < 2 ^ 32
@@ -112,7 +113,6 @@ impl<D: Disk + Drop, A: Allocator> Engine<D, A> {
             → Between (λ before after. Rose before.faults after.faults) self.old self.new }
         ensures leaves { (m : Machine) → StandsFor self.old m → Leaves (λ d. RevealsSettled d m) self.old self.new }
         ensures faults { OnOk result (LosesNoFault self.old self.new) }
-        ensures ends { IfOk result (λ n. done + n < length into.old → (address + done + n) % 512 ≡ 0) }
         ensures spends { Spends 0 1 self.old self.new }
     {
         let ready = self.load_at_hand(address, into, done);

@@ -1,11 +1,11 @@
 -- Calls in a row, and one more.
-use Rattle.std.proofs.Common.{◌≡◌, Some, None, ℕ, zero, suc, ◌+◌, ◌-◌, ◌<◌, ◌≤◌, List, [], ◌∷◌, ◌++◌, map, refl, sym, ◌∙◌, ap, subst, arith, append-nil, append_assoc}
+use Rattle.std.proofs.Common.{◌≡◌, Some, None, ℕ, zero, suc, ◌+◌, ◌-◌, ◌≤◌, List, [], ◌∷◌, ◌++◌, refl, sym, ◌∙◌, ap, subst, arith}
 use Rattle.std.specs.Prelude.{flat_map}
 use Rattle.std.specs.List.{range_with_len}
 use Rattle.std.proofs.lemmas.Grind.{flat_map-append}
 use Rattle.flight_core.specs.declared.pending.Pending.{Pending}
 use Rattle.flight_core.specs.Carrying.{Carried, Tries, Steps, LedInARow, LedByFirst}
-use Rattle.flight_core.specs.Crowd.{by_client, entry_of, of_client, of_flight}
+use Rattle.flight_core.specs.Crowd.{by_client, entry_of, of_client}
 use Rattle.flight_core.specs.LandingCalls.{tries_of, landing_calls}
 use Rattle.flight_core.specs.Pending.{times}
 use Rattle.flight_core.proofs.TimesLemmas.{entry_none, of_nobody, of_one}

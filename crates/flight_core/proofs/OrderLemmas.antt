@@ -1,5 +1,5 @@
 -- Those who wait stay in order: each client once, and those of one page in one flight.
-use Rattle.std.proofs.Common.{◌≡◌, ◌≢◌, ◌⊎◌, inl, inr, ℕ, ◌+◌, ◌<◌, ◌≤◌, max, Bool, true, false, not, cond, List, [], ◌∷◌, ◌++◌, length, get_or, Option, Some, None, refl, sym, ◌∙◌, ap, subst, arith, eq-eqb, ne_eqb, eqb-true}
+use Rattle.std.proofs.Common.{◌≡◌, ◌≢◌, ◌⊎◌, inl, inr, ℕ, ◌+◌, ◌<◌, ◌≤◌, max, Bool, true, false, cond, List, [], ◌∷◌, ◌++◌, length, get_or, Option, Some, None, refl, sym, ◌∙◌, ap, subst, arith, eq-eqb, ne_eqb, eqb-true}
 use Rattle.std.specs.Prelude.{◌==◌, ◌↔◌, filter}
 use Rattle.std.specs.List.{All}
 use Rattle.std.specs.Option.{option_map_or}
@@ -11,7 +11,7 @@ use Rattle.flat_machine.specs.After.{ends_trace}
 use Rattle.flat_machine.specs.Form.{IsInForm}
 use Rattle.flight_core.specs.declared.pending.Pending.{Pending}
 use Rattle.flight_core.specs.Pending.{IsClient, IsKept, IsPending, AreInOrder, times}
-use Rattle.flight_core.specs.Crowd.{entry_of, entry_for, flight_for, begun_for, with_waiting, of_others}
+use Rattle.flight_core.specs.Crowd.{entry_of, entry_for, flight_for, begun_for, with_waiting}
 use Rattle.flight_core.proofs.TimesLemmas.{times-push, times-parts, found, not_found, fewer}
 
 -- a call that may wait ends no trace, and is in form

@@ -1,5 +1,5 @@
 -- The others of a flight that lands, as they are tried.
-use Rattle.std.specs.Prelude.{◌≡◌, ◌⊎◌, ℕ, ◌+◌, ◌≤◌, List, [], ◌∷◌, Option, Some, None}
+use Rattle.std.specs.Prelude.{◌≡◌, ℕ, ◌+◌, ◌≤◌, List, [], ◌∷◌, Option, Some, None}
 use Rattle.std.specs.Option.{option_map_or}
 use Rattle.flat_machine.specs.declared.call.Reply.{Reply}
 use Rattle.flight_core.specs.declared.pending.Pending.{Pending}

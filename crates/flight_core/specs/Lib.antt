@@ -6,3 +6,4 @@ pub mod LandingCalls
 pub mod Run
 pub mod Landing
 pub mod Flights
+pub mod Halting

@@ -1,7 +1,5 @@
 //! Clients that ask, and flights that are done.
-ghost use Rattle.std.specs.Prelude.{◌≡◌, ◌<◌, ◌≤◌, ◌+◌, ◌^◌, [], ◌∷◌, false, IfOk, IfErr, OnOk, Ok, None, Some, IsSome};
-ghost use Rattle.labelled_disk.specs.declared.evidence.Halt.{Halt};
-ghost use Rattle.labelled_disk.specs.declared.evidence.Halt.TheVariants as halt;
+ghost use Rattle.std.specs.Prelude.{◌≡◌, ◌<◌, ◌≤◌, ◌+◌, ◌^◌, [], ◌∷◌, false, IfOk, Ok, None, Some, IsSome};
 ghost use Rattle.flat_machine.specs.After.{ends_trace};
 ghost use Rattle.flat_machine.specs.Form.{IsInForm};
 ghost use Rattle.flat_machine.specs.Machine.{Machine};
@@ -29,6 +27,7 @@ pub struct Flights<S: Stepped> {
 }
 
 impl<S: Stepped> Flights<S> {
+    ghost use Rattle.flight_core.specs.Halting.{Ends};
     ghost use Rattle.flight_core.specs.Flights.{crowd_of, flight_of, page_of, LeadsTo, IsIdle, WaitsRightly, NeverBlames, after_revealed};
 
     /// Nobody waits.
@@ -88,11 +87,7 @@ impl<S: Stepped> Flights<S> {
         ensures quiet { (m : Machine) → S.stands self.old.stepped m → IfOk result
             (λ t. ComesBy m call.now (S.resident self.old.stepped m)
             (S.resident self.new.stepped (after_revealed m call.now t))) }
-        ensures sound { (m : Machine) → S.stands self.old.stepped m → IfErr result (λ e. e ≡ halt.Disk) }
-        ensures cause { IfErr result (S.accounted self.old.stepped self.new.stepped) }
-        ensures later { (s : S) (e : Halt)
-            → OnOk result (S.accounted self.new.stepped s e → S.accounted self.old.stepped s e) }
-        ensures goes_on { OnOk result (S.runs self.new.stepped) }
+        ensures ends { Ends self.old self.new result }
         ensures few { self.new.begun ≤ self.old.begun + 1 }
         ensures led { LedByFirst S.led self.old.stepped (Tries call.now ∷ []) self.new.stepped }
     {
@@ -112,11 +107,7 @@ impl<S: Stepped> Flights<S> {
             (Completes (crowd_of m self.old) flight l)) }
         ensures none { IsIdle (result ≡ Ok landed.NoFlight) (of_flight self.old.waiting.items flight ≡ [])
             (self.new ≡ self.old) }
-        ensures sound { (m : Machine) → S.stands self.old.stepped m → IfErr result (λ e. e ≡ halt.Disk) }
-        ensures cause { IfErr result (S.accounted self.old.stepped self.new.stepped) }
-        ensures later { (s : S) (e : Halt)
-            → OnOk result (S.accounted self.new.stepped s e → S.accounted self.old.stepped s e) }
-        ensures goes_on { OnOk result (S.runs self.new.stepped) }
+        ensures ends { Ends self.old self.new result }
         ensures few { self.new.begun ≤ self.old.begun + 16 }
         ensures led { LedByFirst S.led self.old.stepped (landing_calls (of_flight self.old.waiting.items flight))
             self.new.stepped }
@@ -150,11 +141,7 @@ impl<S: Stepped> Flights<S> {
         ensures quiet { (m : Machine) → S.stands self.old.stepped m → IfOk result
             (λ t. ComesBy m call.now (S.resident self.old.stepped m)
             (S.resident self.new.stepped (after_revealed m call.now t))) }
-        ensures sound { (m : Machine) → S.stands self.old.stepped m → IfErr result (λ e. e ≡ halt.Disk) }
-        ensures cause { IfErr result (S.accounted self.old.stepped self.new.stepped) }
-        ensures later { (s : S) (e : Halt)
-            → OnOk result (S.accounted self.new.stepped s e → S.accounted self.old.stepped s e) }
-        ensures goes_on { OnOk result (S.runs self.new.stepped) }
+        ensures ends { Ends self.old self.new result }
         ensures never_blames { ¬ (result ≡ Ok revealed.Busy)
             × NeverBlames client self.old.begun self.old.waiting.items self.new.begun self.new.waiting.items }
         ensures led { S.led self.old.stepped (Tries call.now) self.new.stepped }

@@ -1,8 +1,6 @@
 //! The others of a flight that lands.
-ghost use Rattle.std.specs.Prelude.{◌≡◌, ◌<◌, ◌≤◌, ◌+◌, ◌^◌, ◌++◌, ℕ, IfOk, IfErr, OnOk, None, IsSome, length};
+ghost use Rattle.std.specs.Prelude.{◌≡◌, ◌<◌, ◌≤◌, ◌+◌, ◌^◌, ◌++◌, ℕ, IfOk, None, IsSome, length};
 ghost use Rattle.std.specs.List.{All};
-ghost use Rattle.labelled_disk.specs.declared.evidence.Halt.{Halt};
-ghost use Rattle.labelled_disk.specs.declared.evidence.Halt.TheVariants as halt;
 ghost use Rattle.flat_machine.specs.Machine.{Machine};
 ghost use Rattle.flight_core.specs.Pending.{IsClient, IsKept};
 ghost use Rattle.flight_core.specs.Crowd.{entry_of, by_client, of_client, TriesEach};
@@ -16,6 +14,7 @@ use flat_machine::Reply;
 use labelled_disk::Halt;
 
 impl<S: Stepped> Flights<S> {
+    ghost use Rattle.flight_core.specs.Halting.{Ends};
     ghost use Rattle.flight_core.specs.Flights.{crowd_of, LeadsTo, NeverBlames};
 
     // Tries the others, in ascending clients, after the owner's answer.
@@ -28,11 +27,7 @@ impl<S: Stepped> Flights<S> {
         ensures tried { (m : Machine) → S.stands self.old.stepped m → IfOk result
             (λ a. LeadsTo (λ n. crowd_of n self.new) (S.stands self.new.stepped)
             (HasTried (crowd_of m self.old) (by_client others.now) owner a.items)) }
-        ensures sound { (m : Machine) → S.stands self.old.stepped m → IfErr result (λ e. e ≡ halt.Disk) }
-        ensures cause { IfErr result (S.accounted self.old.stepped self.new.stepped) }
-        ensures later { (s : S) (e : Halt)
-            → OnOk result (S.accounted self.new.stepped s e → S.accounted self.old.stepped s e) }
-        ensures goes_on { OnOk result (S.runs self.new.stepped) }
+        ensures ends { Ends self.old self.new result }
         ensures few { self.new.begun ≤ self.old.begun + 16 }
         ensures led { LedByFirst S.led self.old.stepped (tries_of (by_client others.now)) self.new.stepped }
     {
@@ -57,11 +52,7 @@ impl<S: Stepped> Flights<S> {
             (λ r. LeadsTo (λ n. crowd_of n self.new) (S.stands self.new.stepped)
             (TriesEach (crowd_of m self.old) (of_client others.now client) (answer_of client r))) }
         ensures one { IfOk result (λ r. IsSome r → IsSome (entry_of others.now client)) }
-        ensures sound { (m : Machine) → S.stands self.old.stepped m → IfErr result (λ e. e ≡ halt.Disk) }
-        ensures cause { IfErr result (S.accounted self.old.stepped self.new.stepped) }
-        ensures later { (s : S) (e : Halt)
-            → OnOk result (S.accounted self.new.stepped s e → S.accounted self.old.stepped s e) }
-        ensures goes_on { OnOk result (S.runs self.new.stepped) }
+        ensures ends { Ends self.old self.new result }
         ensures never_blames { NeverBlames client self.old.begun self.old.waiting.items self.new.begun
             self.new.waiting.items }
         ensures led { LedInARow S.led self.old.stepped (tries_of (of_client others.now client)) self.new.stepped }

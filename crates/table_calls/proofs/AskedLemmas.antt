@@ -2,25 +2,21 @@
 use Rattle.std.proofs.Common.{◌≡◌, inl, ℕ, List, sym, subst}
 use Rattle.labelled_disk.specs.declared.disk.Disk.{Ghosts}
 use Rattle.swap_units.specs.declared.interval.Interval.{Interval}
-use Rattle.filer_kernel.specs.Tables.{BesideTables}
 use Rattle.fault_core.specs.declared.core_over.Core.{Core}
 use Rattle.fault_core.specs.Core.{kept, state}
 use Rattle.fault_core.specs.Kept.{IsKept}
 use Rattle.fault_core.specs.Revealed.{Revealed}
-use Rattle.filer_kernel.specs.View.{accepted, TablesAre, View}
+use Rattle.filer_kernel.specs.View.{accepted}
 use Rattle.fault_core.proofs.RevealedLemmas.{revealed_after}
 use Rattle.fault_core.proofs.TurnLemmas.{reaches_tables, own_tables}
 use Rattle.fault_core.proofs.YieldLemmas.{tables_yield}
-use Rattle.table_calls.specs.Answers.{Asked}
+use Rattle.table_calls.specs.Answers.{Asked, AskedTables}
 
--- only what stands beside the tables may have changed of the state
-abbrev pub Beside : View → View → Type 0
-Beside v w = BesideTables v.disk v.slots v.layout v.runs w.disk w.slots w.layout w.runs
-
-pub asked : {D A : Type 0} {G : Ghosts D} (old new : Core D A G) → Beside (state old) (state new) → ((b : List ℕ) → TablesAre (state old) b → TablesAre (state new) b)
+pub asked : {D A : Type 0} {G : Ghosts D} (old new : Core D A G) → AskedTables (state old) (state new)
     → kept new ≡ kept old → new.intervals ≡ old.intervals → Asked old new
-asked old new beside same keeps count =
-    let reaches = reaches_tables (state old) (state new) beside same in
+asked old new tables keeps count =
+    let beside = tables.beside in
+    let reaches = reaches_tables (state old) (state new) beside tables.same in
     record {
       reaches = reaches;
       came = own_tables (state old) (state new).slots beside.brings;

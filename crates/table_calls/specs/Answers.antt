@@ -15,7 +15,7 @@ use Rattle.filer_kernel.specs.Tables.{BesideTables}
 use Rattle.fault_core.specs.declared.core_over.Core.{Core}
 use Rattle.fault_core.specs.Core.{kept, state, Knows}
 use Rattle.fault_core.specs.Reach.{Reaches, BringsOwn, StayOrYield}
-use Rattle.filer_kernel.specs.View.{View, TablesAre}
+use Rattle.filer_kernel.specs.View.{View, TablesAre, TablesBeside}
 
 -- what the tables answered, where a refusal is revealed from a halt: a page that breaks its form is one of the space tables
 abbrev pub refused_or_halted : {A : Type 0} → Result A (SpaceError Halt) → Result (Result A Refusal) Halt
@@ -50,6 +50,11 @@ TablesBreak v breaks page = (b : List ℕ) → TablesAre v b → breaks b page
 -- the bytes of the space tables say so of an answer, where they are revealed
 abbrev pub TablesSay : {A : Type 0} → View → (List ℕ → A → Type 0) → A → Type 0
 TablesSay v says answer = (b : List ℕ) → TablesAre v b → says b answer
+
+-- The tables were asked: pages were found and brought in, and what the tables say has not changed.
+pub record AskedTables (old new : View) : Type 0 where
+  pub beside : TablesBeside old new
+  pub same : (b : List ℕ) → TablesAre old b → TablesAre new b
 
 module _ {D A : Type 0} {G : Ghosts D} where
   -- Pages were found and brought in, and nothing that is known has changed.

@@ -36,8 +36,7 @@ fn add_in<D: Disk, A: Allocator>(
     first: Option<u32>,
 ) -> (Result<(u32, u32), SpaceError<Halt>>, u32)
     requires size { FitsLayout (view_of filer.old) }
-    requires some { 1 ≤ intervals }
-    requires few { intervals ≤ 1023 }
+    requires count { (1 ≤ intervals) × (intervals ≤ 1023) }
     ensures answer { (ss : List Space) → RevealSpaces (TablesAre (view_of filer.old)) intervals ss
         → Answers (first_of (add_row ss parent pages first))
         (λ at.
@@ -113,8 +112,7 @@ fn remove_in<D: Disk, A: Allocator>(
     space: u32,
 ) -> (Result<(), SpaceError<Halt>>, u32)
     requires size { FitsLayout (view_of filer.old) }
-    requires some { 1 ≤ intervals }
-    requires few { intervals ≤ 1023 }
+    requires count { (1 ≤ intervals) × (intervals ≤ 1023) }
     ensures answer { (ss : List Space) → RevealSpaces (TablesAre (view_of filer.old)) intervals ss
         → Answers (first_of (remove_row ss space))
         (λ _. RevealSpaces (TablesAre (view_of filer.new)) result.1 (without_space space ss))

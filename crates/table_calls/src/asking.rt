@@ -12,12 +12,12 @@ ghost use Rattle.space_tables.specs.Shows.{IsRunAt};
 ghost use Rattle.space_tables.specs.Answer.{IfMem, IfMalformed, Replies};
 ghost use Rattle.space_tables.specs.Stored.{RevealSpaces};
 ghost use Rattle.filer_kernel.specs.Tables.{IsTableAccounted};
-ghost use Rattle.filer_kernel.specs.View.{FitsLayout, TablesAre, TablesBeside, view_of};
+ghost use Rattle.filer_kernel.specs.View.{FitsLayout, TablesAre, view_of};
 ghost use Rattle.fault_core.specs.Reach.{ReachHalts};
 ghost use Rattle.fault_core.specs.Lack.{Sees};
 ghost use Rattle.fault_core.specs.NeverBlames.{NeverBlamesTables};
 ghost use Rattle.fault_core.specs.Core.{kept, state, Knows};
-ghost use Rattle.table_calls.specs.Answers.{Asked, IfGiven, Reveals, TablesBreak, TablesSay};
+ghost use Rattle.table_calls.specs.Answers.{Asked, AskedTables, IfGiven, Reveals, TablesBreak, TablesSay};
 
 use crate::halting::refused_or_halted;
 use fault_core::Core;
@@ -34,8 +34,7 @@ fn ask_bounds<D: Disk, A: Allocator>(
     space: u32,
 ) -> Result<(u32, u32), SpaceError<Halt>>
     requires size { FitsLayout (view_of filer.old) }
-    requires some { 1 ≤ intervals }
-    requires few { intervals ≤ 1023 }
+    requires count { (1 ≤ intervals) × (intervals ≤ 1023) }
     ensures answer { (ss : List Space) → RevealSpaces (TablesAre (view_of filer.old)) intervals ss
         → Replies (no_space ss space) (λ run. (s : Space) × (space_at ss space ≡ Some s) × (run ≡ (s.first, s.pages)))
         result }
@@ -47,8 +46,7 @@ fn ask_bounds<D: Disk, A: Allocator>(
         (IfMem
         (IsTableAccounted (view_of filer.old).disk (view_of filer.old).slots (view_of filer.old).layout
         (view_of filer.old).runs (view_of filer.new).disk)) }
-    ensures same { (b : List ℕ) → TablesAre (view_of filer.old) b → TablesAre (view_of filer.new) b }
-    ensures kept { TablesBeside (view_of filer.old) (view_of filer.new) }
+    ensures asked { AskedTables (view_of filer.old) (view_of filer.new) }
     ensures cost { (view_of filer.new).disk.transfers ≤ (view_of filer.old).disk.transfers + 28 }
 {
     let mut tables = SpaceTables::<TableMemory<D, A>>::over(filer.table_memory(), intervals);
@@ -92,8 +90,7 @@ fn ask_place<D: Disk, A: Allocator>(
     page: u32,
 ) -> Result<(u32, u32, u32), SpaceError<Halt>>
     requires size { FitsLayout (view_of filer.old) }
-    requires some { 1 ≤ intervals }
-    requires few { intervals ≤ 1023 }
+    requires count { (1 ≤ intervals) × (intervals ≤ 1023) }
     ensures answer { (ss : List Space) → RevealSpaces (TablesAre (view_of filer.old)) intervals ss
         → Replies (first_of (past_root page ∷ []))
         (λ at. (s : Space) × (innermost ss page ≡ Some s) × (at ≡ (s.handle, s.first, s.pages))) result }
@@ -104,8 +101,7 @@ fn ask_place<D: Disk, A: Allocator>(
         (IfMem
         (IsTableAccounted (view_of filer.old).disk (view_of filer.old).slots (view_of filer.old).layout
         (view_of filer.old).runs (view_of filer.new).disk)) }
-    ensures same { (b : List ℕ) → TablesAre (view_of filer.old) b → TablesAre (view_of filer.new) b }
-    ensures kept { TablesBeside (view_of filer.old) (view_of filer.new) }
+    ensures asked { AskedTables (view_of filer.old) (view_of filer.new) }
     ensures cost { (view_of filer.new).disk.transfers ≤ (view_of filer.old).disk.transfers + 224 }
 {
     let mut tables = SpaceTables::<TableMemory<D, A>>::over(filer.table_memory(), intervals);
@@ -150,8 +146,7 @@ fn ask_can_map<D: Disk, A: Allocator>(
     space: u32,
 ) -> Result<(u32, u32), SpaceError<Halt>>
     requires size { FitsLayout (view_of filer.old) }
-    requires some { 1 ≤ intervals }
-    requires few { intervals ≤ 1023 }
+    requires count { (1 ≤ intervals) × (intervals ≤ 1023) }
     ensures answer { (ss : List Space) → RevealSpaces (TablesAre (view_of filer.old)) intervals ss
         → Replies (first_of (map_row ss space))
         (λ run. (s : Space) × (space_at ss space ≡ Some s) × (run ≡ (s.first, s.pages))) result }
@@ -162,8 +157,7 @@ fn ask_can_map<D: Disk, A: Allocator>(
         (IfMem
         (IsTableAccounted (view_of filer.old).disk (view_of filer.old).slots (view_of filer.old).layout
         (view_of filer.old).runs (view_of filer.new).disk)) }
-    ensures same { (b : List ℕ) → TablesAre (view_of filer.old) b → TablesAre (view_of filer.new) b }
-    ensures kept { TablesBeside (view_of filer.old) (view_of filer.new) }
+    ensures asked { AskedTables (view_of filer.old) (view_of filer.new) }
     ensures cost { (view_of filer.new).disk.transfers ≤ (view_of filer.old).disk.transfers + 14364 }
 {
     let mut tables = SpaceTables::<TableMemory<D, A>>::over(filer.table_memory(), intervals);

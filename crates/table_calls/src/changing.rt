@@ -38,8 +38,7 @@ fn set_unit_in<D: Disk, A: Allocator>(
     unit: u32,
 ) -> Result<(), SpaceError<Halt>>
     requires size { FitsLayout (view_of filer.old) }
-    requires some { 1 ≤ intervals }
-    requires few { intervals ≤ 1023 }
+    requires count { (1 ≤ intervals) × (intervals ≤ 1023) }
     ensures answer { (ss : List Space) → RevealSpaces (TablesAre (view_of filer.old)) intervals ss
         → Answers (first_of (unit_row ss space unit))
         (λ _.
@@ -102,8 +101,7 @@ fn set_window_in<D: Disk, A: Allocator>(
     shown: Option<Shown>,
 ) -> Result<(), SpaceError<Halt>>
     requires size { FitsLayout (view_of filer.old) }
-    requires some { 1 ≤ intervals }
-    requires few { intervals ≤ 1023 }
+    requires count { (1 ≤ intervals) × (intervals ≤ 1023) }
     ensures done { (ss : List Space) (x : Space) → RevealSpaces (TablesAre (view_of filer.old)) intervals ss
         → MayHaveWindow ss x → x.handle ≡ space → IfSome shown (λ w. WindowFits x.pages (window_of w))
         → MatchResult result

@@ -12,12 +12,12 @@ ghost use Rattle.space_tables.specs.Shows.{window_of, shows, IsFirstWith, IsShow
 ghost use Rattle.space_tables.specs.Answer.{FromMemory, NotRefused, IfMem, IfMalformed, Replies};
 ghost use Rattle.space_tables.specs.Stored.{RevealSpaces};
 ghost use Rattle.filer_kernel.specs.Tables.{IsTableAccounted};
-ghost use Rattle.filer_kernel.specs.View.{FitsLayout, TablesAre, TablesBeside, view_of};
+ghost use Rattle.filer_kernel.specs.View.{FitsLayout, TablesAre, view_of};
 ghost use Rattle.fault_core.specs.Reach.{ReachHalts};
 ghost use Rattle.fault_core.specs.Lack.{Sees};
 ghost use Rattle.fault_core.specs.NeverBlames.{NeverBlamesTables};
 ghost use Rattle.fault_core.specs.Core.{kept, state, Knows};
-ghost use Rattle.table_calls.specs.Answers.{Asked, IfGiven, Reveals, TablesBreak, TablesSay};
+ghost use Rattle.table_calls.specs.Answers.{Asked, AskedTables, IfGiven, Reveals, TablesBreak, TablesSay};
 
 use crate::halting::refused_or_halted;
 use fault_core::Core;
@@ -34,8 +34,7 @@ fn ask_shown<D: Disk, A: Allocator>(
     space: u32,
 ) -> Result<Shown, SpaceError<Halt>>
     requires size { FitsLayout (view_of filer.old) }
-    requires some { 1 ≤ intervals }
-    requires few { intervals ≤ 1023 }
+    requires count { (1 ≤ intervals) × (intervals ≤ 1023) }
     ensures answer { (ss : List Space) → RevealSpaces (TablesAre (view_of filer.old)) intervals ss
         → Replies (first_of (window_row ss space))
         (λ x. (s : Space) × (space_at ss space ≡ Some s) × (s.window ≡ Some (window_of x))) result }
@@ -47,8 +46,7 @@ fn ask_shown<D: Disk, A: Allocator>(
         (IfMem
         (IsTableAccounted (view_of filer.old).disk (view_of filer.old).slots (view_of filer.old).layout
         (view_of filer.old).runs (view_of filer.new).disk)) }
-    ensures same { (b : List ℕ) → TablesAre (view_of filer.old) b → TablesAre (view_of filer.new) b }
-    ensures kept { TablesBeside (view_of filer.old) (view_of filer.new) }
+    ensures asked { AskedTables (view_of filer.old) (view_of filer.new) }
     ensures cost { (view_of filer.new).disk.transfers ≤ (view_of filer.old).disk.transfers + 28 }
 {
     let mut tables = SpaceTables::<TableMemory<D, A>>::over(filer.table_memory(), intervals);
@@ -95,8 +93,7 @@ fn ask_shows_file<D: Disk, A: Allocator>(
     writable_only: bool,
 ) -> Result<Option<(u32, Shown)>, SpaceError<Halt>>
     requires size { FitsLayout (view_of filer.old) }
-    requires some { 1 ≤ intervals }
-    requires few { intervals ≤ 1023 }
+    requires count { (1 ≤ intervals) × (intervals ≤ 1023) }
     ensures answer { (ss : List Space) → RevealSpaces (TablesAre (view_of filer.old)) intervals ss
         → IfOk result (IsFirstWith (shows id writable_only) ss) }
     ensures right { (ss : List Space) → RevealSpaces (TablesAre (view_of filer.old)) intervals ss
@@ -110,8 +107,7 @@ fn ask_shows_file<D: Disk, A: Allocator>(
         (IfMem
         (IsTableAccounted (view_of filer.old).disk (view_of filer.old).slots (view_of filer.old).layout
         (view_of filer.old).runs (view_of filer.new).disk)) }
-    ensures same { (b : List ℕ) → TablesAre (view_of filer.old) b → TablesAre (view_of filer.new) b }
-    ensures kept { TablesBeside (view_of filer.old) (view_of filer.new) }
+    ensures asked { AskedTables (view_of filer.old) (view_of filer.new) }
     ensures cost { (view_of filer.new).disk.transfers ≤ (view_of filer.old).disk.transfers + 14336 }
 {
     let mut tables = SpaceTables::<TableMemory<D, A>>::over(filer.table_memory(), intervals);

@@ -212,8 +212,7 @@ fn make_copy<D: Disk, E: Disk, A: Allocator>(
     id: FileId,
     file: Attributes,
 ) -> Result<(), PairHalt>
-    requires from_size { FitsLayout (view_of from.old) }
-    requires to_size { FitsLayout (view_of to.old) }
+    requires sizes { FitsLayout (view_of from.old) × FitsLayout (view_of to.old) }
     requires of_file { is_file_id id ≡ true }
     requires takes { Takes volume.old id file.pages }
     ensures copies { (p : machine.Pair) (h : IsPaired (view_of from.old) (view_of to.old) volume.old p)

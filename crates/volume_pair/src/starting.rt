@@ -110,8 +110,7 @@ fn put_in_use<D: Disk, A: Allocator>(
     requires same_layout { layout ≡ (view_of filer.old).layout }
     requires size { FitsLayout (view_of filer.old) }
     requires valid { IsValidRoot (view_of filer.old).layout.sectors root }
-    requires bare { IsBare (view_of filer.old).slots }
-    requires no_runs { (n : ℕ) → runs_of n (view_of filer.old).runs ≡ [] }
+    requires fresh { IsBare (view_of filer.old).slots × ((n : ℕ) → runs_of n (view_of filer.old).runs ≡ []) }
     ensures started { (d : List Sector) → (view_of filer.old).disk.contents ≡ Some d → Sound d
         → root ≡ root_in (root_page d)
         → MatchResult result (IsStarted d (view_of filer.new)) (λ e. e ≡ halt.Disk) }

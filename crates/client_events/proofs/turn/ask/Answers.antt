@@ -13,7 +13,7 @@ returns-in-Ok-write_revealed-clause-answered g c = (
 )
 
 pub returns-in-Ok-write_revealed-clause-keeps : goal.returns-in-Ok-write_revealed-clause-keeps
-returns-in-Ok-write_revealed-clause-keeps g c = keeps_written c.args.flights.now c.ask.new.self c.ask.result c.in-Ok.revealed c.in-Ok.is c.ask.ensures.goes_on c.ask.ensures.later c.ask.ensures.few
+returns-in-Ok-write_revealed-clause-keeps g c = keeps_written c.args.flights.now c.ask.new.self c.ask.result c.in-Ok.revealed c.in-Ok.is c.ask.ensures.ends.goes_on c.ask.ensures.ends.later c.ask.ensures.few
 
 pub returns-in-Err-write_revealed-clause-answered : goal.returns-in-Err-write_revealed-clause-answered
 returns-in-Err-write_revealed-clause-answered g c = (
@@ -25,4 +25,4 @@ returns-in-Err-write_revealed-clause-answered g c = (
 )
 
 pub returns-in-Err-write_revealed-clause-keeps : goal.returns-in-Err-write_revealed-clause-keeps
-returns-in-Err-write_revealed-clause-keeps g c = keeps_cut_short c.args.flights.now c.ask.new.self c.ask.result c.in-Ok.revealed c.in-Ok.is c.ask.ensures.goes_on c.ask.ensures.later c.ask.ensures.few
+returns-in-Err-write_revealed-clause-keeps g c = keeps_cut_short c.args.flights.now c.ask.new.self c.ask.result c.in-Ok.revealed c.in-Ok.is c.ask.ensures.ends.goes_on c.ask.ensures.ends.later c.ask.ensures.few

@@ -19,7 +19,7 @@ returns-clause-sound g c = λ m named ss knows.
     rw c.refused_or_halted.ensures (sound c.ask_can_map.result (view_of c.ask_can_map.new.filer) knows (whole c.ask_can_map.result _ _ _ (c.ask_can_map.ensures.answer ss (rw c.interval_count-intervals.ensures (known_spaces knows)))) c.ask_can_map.ensures.cause)
 
 pub returns-clause-asked : goal.returns-clause-asked
-returns-clause-asked g c = asked c.args.core.now _ c.ask_can_map.ensures.kept c.ask_can_map.ensures.same refl refl
+returns-clause-asked g c = asked c.args.core.now _ c.ask_can_map.ensures.asked refl refl
 
 -- ---- The tables are revealed.
 

@@ -21,7 +21,7 @@ returns-clause-sound g c = λ m named ss knows.
     rw c.refused_or_halted.ensures (sound c.ask_place.result (view_of c.ask_place.new.filer) knows (whole c.ask_place.result _ _ _ (c.ask_place.ensures.answer ss (rw c.interval_count-intervals.ensures (known_spaces knows)))) c.ask_place.ensures.cause)
 
 pub returns-clause-asked : goal.returns-clause-asked
-returns-clause-asked g c = asked c.args.core.now _ c.ask_place.ensures.kept c.ask_place.ensures.same refl refl
+returns-clause-asked g c = asked c.args.core.now _ c.ask_place.ensures.asked refl refl
 
 -- ---- The tables are revealed.
 

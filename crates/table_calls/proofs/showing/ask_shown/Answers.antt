@@ -13,9 +13,12 @@ returns-clause-read g c = λ b reveals. c.shown.ensures.read b (rw (c.over-table
 pub returns-clause-malformed : goal.returns-clause-malformed
 returns-clause-malformed g c = λ b reveals. c.shown.ensures.malformed b (rw (c.over-tables.ensures.memory, c.table_memory.ensures.value) reveals)
 
-pub returns-clause-same : goal.returns-clause-same
-returns-clause-same g c =
-    let now = c.shown.new.self.mem.filer.now in
-    lent (λ d s x k. (b : List ℕ) → TablesAre (view_of c.args.filer.now) b → TablesReveal d s x k b) _ (view_of now).disk _ (view_of now).slots _ (view_of now).layout _ now.runs
-    (search rules) (search rules) (search rules) (search rules)
-    (λ b reveals. c.shown.ensures.unchanged b (rw (c.over-tables.ensures.memory, c.table_memory.ensures.value) reveals))
+pub returns-clause-asked : goal.returns-clause-asked
+returns-clause-asked g c = record {
+  beside = search rules;
+  same =
+      let now = c.shown.new.self.mem.filer.now in
+      lent (λ d s x k. (b : List ℕ) → TablesAre (view_of c.args.filer.now) b → TablesReveal d s x k b) _ (view_of now).disk _ (view_of now).slots _ (view_of now).layout _ now.runs
+      (search rules) (search rules) (search rules) (search rules)
+      (λ b reveals. c.shown.ensures.unchanged b (rw (c.over-tables.ensures.memory, c.table_memory.ensures.value) reveals));
+}

@@ -23,7 +23,7 @@ returns-clause-sound g c = λ m named ss knows.
     rw c.refused_or_halted.ensures (sound c.ask_shown.result (view_of c.ask_shown.new.filer) knows (whole c.ask_shown.result _ _ _ (c.ask_shown.ensures.answer ss (rw c.interval_count-intervals.ensures (known_spaces knows)))) c.ask_shown.ensures.cause)
 
 pub returns-clause-asked : goal.returns-clause-asked
-returns-clause-asked g c = asked c.args.core.now _ c.ask_shown.ensures.kept c.ask_shown.ensures.same refl refl
+returns-clause-asked g c = asked c.args.core.now _ c.ask_shown.ensures.asked refl refl
 
 -- ---- The tables are revealed.
 

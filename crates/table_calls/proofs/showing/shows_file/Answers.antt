@@ -27,7 +27,7 @@ returns-in-Ok-Ok-clause-answer g c = λ m named ss knows.
     (subst (λ (x : Answer). IfOk x (IfGiven first)) (sym c.refused_or_halted.ensures ∙ c.in-Ok-Ok.is) (given c.ask_shows_file.result first (c.ask_shows_file.ensures.answer ss (rw c.interval_count-intervals.ensures (known_spaces knows)))))
 
 pub returns-in-Ok-Ok-clause-asked : goal.returns-in-Ok-Ok-clause-asked
-returns-in-Ok-Ok-clause-asked g c = asked c.args.core.now _ c.ask_shows_file.ensures.kept c.ask_shows_file.ensures.same refl refl
+returns-in-Ok-Ok-clause-asked g c = asked c.args.core.now _ c.ask_shows_file.ensures.asked refl refl
 
 pub returns-in-Err-clause-cause : goal.returns-in-Err-clause-cause
 returns-in-Err-clause-cause g c =
@@ -42,7 +42,7 @@ returns-in-Err-clause-sound g c = λ m named ss knows.
     subst (λ (x : Answer). IfErr x (λ e. e ≡ Disk)) (sym c.refused_or_halted.ensures ∙ c.in-Err.is) (sound c.ask_shows_file.result (view_of c.ask_shows_file.new.filer) knows right c.ask_shows_file.ensures.cause)
 
 pub returns-in-Err-clause-asked : goal.returns-in-Err-clause-asked
-returns-in-Err-clause-asked g c = asked c.args.core.now _ c.ask_shows_file.ensures.kept c.ask_shows_file.ensures.same refl refl
+returns-in-Err-clause-asked g c = asked c.args.core.now _ c.ask_shows_file.ensures.asked refl refl
 
 -- ---- The tables are revealed.
 

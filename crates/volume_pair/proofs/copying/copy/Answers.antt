@@ -55,11 +55,8 @@ returns-in-Some-clause-volume g c = keeps_numbers c.args.volume.now
 
 -- ---- A copy is made.
 
-pub make_copy-requires-clause-from_size : goal.make_copy-requires-clause-from_size
-make_copy-requires-clause-from_size g c = fits_still c.original.ensures.looks c.requires.from_size
-
-pub make_copy-requires-clause-to_size : goal.make_copy-requires-clause-to_size
-make_copy-requires-clause-to_size g c = fits_still c.refusal.ensures.looks c.requires.to_size
+pub make_copy-requires-clause-sizes : goal.make_copy-requires-clause-sizes
+make_copy-requires-clause-sizes g c = (fits_still c.original.ensures.looks c.requires.from_size, fits_still c.refusal.ensures.looks c.requires.to_size)
 
 pub returns-in-Ok-make_copy-clause-replies : goal.returns-in-Ok-make_copy-clause-replies
 returns-in-Ok-make_copy-clause-replies g c = λ p h.

@@ -24,7 +24,7 @@ pub returns-in-Err-clause-why : goal.returns-in-Err-clause-why
 returns-in-Err-clause-why g c = why_of c.in-Err.ensures.fails
 
 pub copy_pages-requires-clause-to_size : goal.copy_pages-requires-clause-to_size
-copy_pages-requires-clause-to_size g c = written_fits (all_written c.args.id _ _ (view_of c.args.to.now) (view_of c.create_as.new.filer) c.requires.of_file c.in-Ok.ensures.writes c.create_as.ensures.stays.layout) c.requires.to_size
+copy_pages-requires-clause-to_size g c = written_fits (all_written c.args.id _ _ (view_of c.args.to.now) (view_of c.create_as.new.filer) c.requires.of_file c.in-Ok.ensures.writes c.create_as.ensures.stays.layout) c.requires.sizes.1
 
 pub returns-in-Err-copy_pages-clause-to_writes : goal.returns-in-Err-copy_pages-clause-to_writes
 returns-in-Err-copy_pages-clause-to_writes g c = written_then (all_written c.args.id _ _ (view_of c.args.to.now) (view_of c.create_as.new.filer) c.requires.of_file c.in-Ok.ensures.writes c.create_as.ensures.stays.layout) (pages_written c.copy_pages.ensures.to_writes)
@@ -33,7 +33,7 @@ pub returns-in-Err-copy_pages-clause-why : goal.returns-in-Err-copy_pages-clause
 returns-in-Err-copy_pages-clause-why g c = copied_after _ _ (looked_nothing (view_of c.args.from.now)) (all_written c.args.id _ _ (view_of c.args.to.now) (view_of c.create_as.new.filer) c.requires.of_file c.in-Ok.ensures.writes c.create_as.ensures.stays.layout) c.in-Err-copy_pages.halt c.in-Err-copy_pages.ensures.why
 
 pub seal-requires-clause-size : goal.seal-requires-clause-size
-seal-requires-clause-size g c = written_fits (written_then (all_written c.args.id _ _ (view_of c.args.to.now) (view_of c.create_as.new.filer) c.requires.of_file c.in-Ok.ensures.writes c.create_as.ensures.stays.layout) (pages_written c.copy_pages.ensures.to_writes)) c.requires.to_size
+seal-requires-clause-size g c = written_fits (written_then (all_written c.args.id _ _ (view_of c.args.to.now) (view_of c.create_as.new.filer) c.requires.of_file c.in-Ok.ensures.writes c.create_as.ensures.stays.layout) (pages_written c.copy_pages.ensures.to_writes)) c.requires.sizes.1
 
 pub returns-in-Ok-seal-clause-to_writes : goal.returns-in-Ok-seal-clause-to_writes
 returns-in-Ok-seal-clause-to_writes g c = written_then (written_then (all_written c.args.id _ _ (view_of c.args.to.now) (view_of c.create_as.new.filer) c.requires.of_file c.in-Ok.ensures.writes c.create_as.ensures.stays.layout) (pages_written c.copy_pages.ensures.to_writes)) c.seal.ensures.writes

@@ -32,14 +32,14 @@ pub returns-in-Ok-clause-still : goal.returns-in-Ok-clause-still
 returns-in-Ok-clause-still g c = λ m stands. inl (loaded_at m _ _ _ _ _ c.in-Ok.ensures.called stands).1
 
 -- the piece is on one page, so none of it was moved
-pub returns-in-Err-clause-other : goal.returns-in-Err-clause-other
-returns-in-Err-clause-other g c =
+pub returns-in-Err-clause-rest : goal.returns-in-Err-clause-rest
+returns-in-Err-clause-rest g c =
     let done = c.args.done in
     let n = c.in_piece-count.result in
     let into = c.args.into.now in
     let part = (done + n) - done in
     let on_page : c.in-Some.at % 512 + length (mid_of done part into) ≤ 512 = search rules in
-    ap (λ (ys : List ℕ). put_mid done part into ys) (c.in-Err.ensures.intact on_page) ∙ put_same done part into
+    (tt, ap (λ (ys : List ℕ). put_mid done part into ys) (c.in-Err.ensures.intact on_page) ∙ put_same done part into)
 
 pub returns-in-Err-clause-still : goal.returns-in-Err-clause-still
 returns-in-Err-clause-still g c = λ m stands. elim (load_err m _ _ _ _ _ c.in-Err.ensures.called stands) [
@@ -80,8 +80,8 @@ pub returns-in-Err-clause-leaves : goal.returns-in-Err-clause-leaves
 returns-in-Err-clause-leaves g c = λ m stands. load_leaves m _ _ c.args.self.now c.load_piece.new.self _ c.in-Err.ensures.called stands
 
 -- the piece goes up to the end of its page, unless it is the last one
-pub returns-in-Ok-clause-ends : goal.returns-in-Ok-clause-ends
-returns-in-Ok-clause-ends g c = λ more. omega (arith, c.in-Some.ensures, c.in_piece-count.ensures.ends (omega (arith, more)))
+pub returns-in-Ok-clause-more : goal.returns-in-Ok-clause-more
+returns-in-Ok-clause-more g c = (search rules, search rules, λ more. omega (arith, c.in-Some.ensures, c.in_piece-count.ensures.ends (omega (arith, more))))
 
 -- what is spent is spent on the piece
 pub returns-in_default-clause-spends : goal.returns-in_default-clause-spends

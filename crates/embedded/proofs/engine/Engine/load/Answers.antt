@@ -39,7 +39,7 @@ pieces-preserved g c = record {
       leaves_then (λ d. RevealsSettled d m) c.args.self.now c.pieces.self c.load_next.new.self (c.pieces.invariant.leaves m stands)
       (c.load_next.ensures.leaves m (c.pieces.invariant.loaded m stands).0);
   spent = so_far_then c.args.address (c.args.address % 512) c.pieces.done c.in-Ok.count (length c.args.into.now) c.args.self.now c.pieces.self c.load_next.new.self
-      refl (omega (arith, c.pieces-test.true, c.pieces.invariant.long)) c.in-Ok.ensures.more.0 (λ more. c.in-Ok.ensures.ends (omega (arith, more, c.pieces.invariant.long))) c.pieces.invariant.spent c.load_next.ensures.spends;
+      refl (omega (arith, c.pieces-test.true, c.pieces.invariant.long)) c.in-Ok.ensures.more.0 (λ more. c.in-Ok.ensures.more.2 (omega (arith, more, c.pieces.invariant.long))) c.pieces.invariant.spent c.load_next.ensures.spends;
   closed = search rules;
 }
 

@@ -43,11 +43,6 @@ returns-clause-rest g c =
     let none : c.load_at_hand-ready.result ≡ 0 = omega (arith, c.if-ready-gt0.false) in
     rw (c.load_at_hand-ready.ensures.left none) at c.fetch_next.ensures.rest
 
-pub returns-clause-other : goal.returns-clause-other
-returns-clause-other g c =
-    let none : c.load_at_hand-ready.result ≡ 0 = omega (arith, c.if-ready-gt0.false) in
-    rw (c.load_at_hand-ready.ensures.left none) at c.fetch_next.ensures.other
-
 pub returns-clause-stops : goal.returns-clause-stops
 returns-clause-stops g c =
     let none : c.load_at_hand-ready.result ≡ 0 = omega (arith, c.if-ready-gt0.false) in
@@ -64,11 +59,6 @@ returns-clause-leaves g c = rw c.load_at_hand-ready.ensures.same at c.fetch_next
 
 pub returns-clause-faults : goal.returns-clause-faults
 returns-clause-faults g c = rw c.load_at_hand-ready.ensures.same at c.fetch_next.ensures.faults
-
-pub returns-clause-ends : goal.returns-clause-ends
-returns-clause-ends g c =
-    let none : c.load_at_hand-ready.result ≡ 0 = omega (arith, c.if-ready-gt0.false) in
-    rw (c.load_at_hand-ready.ensures.left none) at c.fetch_next.ensures.ends
 
 pub returns-clause-spends : goal.returns-clause-spends
 returns-clause-spends g c = rw c.load_at_hand-ready.ensures.same at c.fetch_next.ensures.spends

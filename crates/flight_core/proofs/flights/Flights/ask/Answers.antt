@@ -21,3 +21,6 @@ returns-clause-busy g c =
 
 pub returns-clause-led : goal.returns-clause-led
 returns-clause-led g c = led_one g.S.Stepped.led c.args.self.now.stepped c.attempt.new.self.stepped _ c.attempt.ensures.led
+
+pub returns-then-is_some-clause-ends : goal.returns-then-is_some-clause-ends
+returns-then-is_some-clause-ends g c = record { sound = λ m stands. tt; cause = tt; later = λ s e is. is; goes_on = c.requires.runs }

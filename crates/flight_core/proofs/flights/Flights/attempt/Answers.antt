@@ -3,7 +3,6 @@ use Rattle.std.specs.Prelude.{option_map}
 use Rattle.flight_core.specs.declared.pending.Pending.{Pending}
 use Rattle.flight_core.specs.Tried.{IsFirstAway}
 use Rattle.flight_core.specs.Carrying.{Tries}
-use Rattle.flight_core.specs.Crowd.{entry_of}
 use Rattle.flight_core.specs.Flights.{page_of}
 use Rattle.flight_core.proofs.OrderLemmas.{newcomer}
 use Rattle.flight_core.proofs.TimesLemmas.{entry_push}
@@ -20,3 +19,19 @@ returns-clause-waits g c = λ m stands.
 
 pub returns-clause-led : goal.returns-clause-led
 returns-clause-led g c = subst (λ stepped. g.S.Stepped.led c.args.self.now.stepped (Tries c.args.call.now) stepped) (sym c.join.ensures.stepped) c.try_step.ensures.led
+
+pub returns-in-Ok-Reply-clause-ends : goal.returns-in-Ok-Reply-clause-ends
+returns-in-Ok-Reply-clause-ends g c = record { sound = λ m stands. tt; cause = tt; later = c.in-Ok-Reply.ensures.later; goes_on = c.in-Ok-Reply.ensures.goes_on }
+
+pub returns-in-Err-clause-ends : goal.returns-in-Err-clause-ends
+returns-in-Err-clause-ends g c = record { sound = c.in-Err.ensures.sound; cause = c.in-Err.ensures.cause; later = λ s e. tt; goes_on = tt }
+
+pub returns-clause-ends : goal.returns-clause-ends
+returns-clause-ends g c =
+    let now = c.join.ensures.stepped in
+    record {
+      sound = λ m stands. tt;
+      cause = tt;
+      later = λ s e is. c.in-Ok-Absent.ensures.later s e (subst (λ stepped. g.S.Stepped.accounted stepped s e) now is);
+      goes_on = subst (λ stepped. g.S.Stepped.runs stepped) (sym now) c.in-Ok-Absent.ensures.goes_on;
+    }

@@ -62,13 +62,29 @@ try_others-requires-clause-free g c =
     let left = filter-from_retain _ (λ (p : Pending). not (p.flight == c.args.flight)) _ (λ x b f' y called. search rules) _ _ c.retain.ensures.filtered in
     each_free s.waiting.items (in_it c.args.flight) s.in_order.once c.in-Some.owner.now c.in-Some.others.now all c.retain.new.self.items left
 
-pub returns-in_err-try_others-clause-cause : goal.returns-in_err-try_others-clause-cause
-returns-in_err-try_others-clause-cause g c =
-    let same : c.from_residual-in_err-try_others.result ≡ Err c.in_err-try_others.field-0.0 = search rules in
-    rw same (c.in_ok-reply.ensures.later c.try_others.new.self.stepped c.in_err-try_others.field-0.0 c.in_err-try_others.ensures.cause)
+pub returns-in_default-clause-ends : goal.returns-in_default-clause-ends
+returns-in_default-clause-ends g c = record { sound = λ m stands. tt; cause = tt; later = λ s e is. is; goes_on = c.requires.runs }
 
-pub returns-clause-later : goal.returns-clause-later
-returns-clause-later g c = λ s e is. c.in_ok-reply.ensures.later s e (c.in_ok-try_others.ensures.later s e is)
+pub returns-in_err-reply-clause-ends : goal.returns-in_err-reply-clause-ends
+returns-in_err-reply-clause-ends g c = record { sound = search rules; cause = search rules; later = search rules; goes_on = search rules }
+
+pub returns-in_err-try_others-clause-ends : goal.returns-in_err-try_others-clause-ends
+returns-in_err-try_others-clause-ends g c =
+    let same : c.from_residual-in_err-try_others.result ≡ Err c.in_err-try_others.field-0.0 = search rules in
+    record {
+      sound = search rules;
+      cause = rw same (c.in_ok-reply.ensures.later c.try_others.new.self.stepped c.in_err-try_others.field-0.0 c.in_err-try_others.ensures.ends.cause);
+      later = search rules;
+      goes_on = search rules;
+    }
+
+pub returns-clause-ends : goal.returns-clause-ends
+returns-clause-ends g c = record {
+  sound = λ m stands. tt;
+  cause = tt;
+  later = λ s e is. c.in_ok-reply.ensures.later s e (c.in_ok-try_others.ensures.ends.later s e is);
+  goes_on = c.in_ok-try_others.ensures.ends.goes_on;
+}
 
 pub returns-clause-completed : goal.returns-clause-completed
 returns-clause-completed g c = λ m stands.

@@ -1,4 +1,4 @@
-use Rattle.std.proofs.Common.{sym, arith}
+use Rattle.std.proofs.Common.{sym, arith, rules}
 use Rattle.flight_core.specs.Crowd.{entry_of}
 use Rattle.flight_core.specs.Flights.{crowd_of}
 use Rattle.flight_core.proofs.CarryingLemmas.{tried_client, tried_nobody}
@@ -32,8 +32,14 @@ returns-clause-tried g c = λ m stands.
     (omega (arith, c.requires.free)) (sym c.in-Some.ensures) c.in_ok-attempt.field-0 t.1 in
     (t.0, rw c.reply_of.ensures tried, t.2)
 
-pub returns-clause-later : goal.returns-clause-later
-returns-clause-later g c = λ s e. c.in_ok-attempt.ensures.later s e
+pub returns-in_default-clause-ends : goal.returns-in_default-clause-ends
+returns-in_default-clause-ends g c = record { sound = λ m stands. tt; cause = tt; later = λ s e is. is; goes_on = c.requires.runs }
+
+pub returns-in_err-attempt-clause-ends : goal.returns-in_err-attempt-clause-ends
+returns-in_err-attempt-clause-ends g c = record { sound = search rules; cause = search rules; later = search rules; goes_on = search rules }
+
+pub returns-clause-ends : goal.returns-clause-ends
+returns-clause-ends g c = record { sound = λ m stands. tt; cause = tt; later = c.in_ok-attempt.ensures.ends.later; goes_on = c.in_ok-attempt.ensures.ends.goes_on }
 
 pub returns-in_default-clause-led : goal.returns-in_default-clause-led
 returns-in_default-clause-led g c =

@@ -1,4 +1,4 @@
-use Rattle.std.proofs.Common.{◌≡◌, ℕ, ◌+◌, ◌≤◌, List, [], ◌∷◌, ◌++◌, length, refl, sym, ◌∙◌, ap, subst, arith, length-append}
+use Rattle.std.proofs.Common.{◌≡◌, ℕ, ◌+◌, ◌≤◌, List, [], ◌∷◌, ◌++◌, length, refl, sym, ◌∙◌, ap, subst, arith, length-append, rules}
 use Rattle.flight_core.specs.declared.pending.Pending.{Pending}
 use Rattle.flight_core.specs.declared.answers.Answer.{Answer}
 use Rattle.flight_core.specs.Pending.{times}
@@ -37,12 +37,12 @@ loop-client-preserved g c =
     let more = answer_of client c.in_ok-reply.reply in
     let long = ap (λ (xs : List Answer). length xs) c.add.ensures ∙ length-append items more in
     record {
-      runs = c.in_ok-reply.ensures.goes_on;
+      runs = c.in_ok-reply.ensures.ends.goes_on;
       few = omega (arith, c.loop-client.invariant.few, c.in_ok-reply.ensures.never_blames.few);
       free = λ k past.
           subst (λ (n : ℕ). n + times others k ≤ 1) (sym (c.in_ok-reply.ensures.never_blames.others k (λ same. absurd (omega (arith, same, past)))))
           (c.loop-client.invariant.free k (omega (arith, past)));
-      later = λ s e is. c.loop-client.invariant.later s e (c.in_ok-reply.ensures.later s e is);
+      later = λ s e is. c.loop-client.invariant.later s e (c.in_ok-reply.ensures.ends.later s e is);
       room =
           subst (λ (n : ℕ). HasRoom n (client + 1) owner.client) (sym long)
           (keeps_room (length items) client owner.client others c.in_ok-reply.reply c.loop-client.invariant.room c.requires.owner.1 c.in_ok-reply.ensures.one);
@@ -84,5 +84,8 @@ returns-clause-led g c =
     let last : c.loop-client.client ≤ 17 = omega (arith, c.loop-client-test.false, c.loop-client.auto.client-end (omega arith)) in
     tried_first g.S.Stepped.led c.args.self.now.stepped c.loop-client.self.stepped c.loop-client.client c.args.others.now c.loop-client.auto.client last c.loop-client.invariant.led
 
-pub returns-clause-later : goal.returns-clause-later
-returns-clause-later g c = λ s e. c.loop-client.invariant.later s e
+pub returns-in_err-reply-clause-ends : goal.returns-in_err-reply-clause-ends
+returns-in_err-reply-clause-ends g c = record { sound = search rules; cause = search rules; later = search rules; goes_on = search rules }
+
+pub returns-clause-ends : goal.returns-clause-ends
+returns-clause-ends g c = record { sound = λ m stands. tt; cause = tt; later = c.loop-client.invariant.later; goes_on = c.loop-client.invariant.runs }
