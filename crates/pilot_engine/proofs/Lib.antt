@@ -68,3 +68,7 @@ mod TriedLemmas
 mod SteppedLemmas
 mod StoreReadyLemmas
 mod SpaceSteps
+mod FailSteps
+mod AskedSteps
+mod EndSteps
+mod CallSteps

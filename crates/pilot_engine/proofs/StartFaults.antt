@@ -60,6 +60,21 @@ abbrev fault_in : Result Root RootFault → RootFault
 fault_in (Ok r) = fault.Disk
 fault_in (Err why) = why
 
+-- why the root was refused
+abbrev root_fault : StartFault → RootFault
+root_fault (NoRoot why) = why
+root_fault NoMemory = fault.Disk
+root_fault (Halted why) = fault.Disk
+
+module _ (n : ℕ) (result : Result Root RootFault) (found : RootFault) (is : result ≡ Err found) where
+  -- a count that no volume has is why
+  pub count_so : (¬ IsCount n → result ≡ Err (fault.BadCount n)) → ¬ IsCount n → NoRoot found ≡ NoRoot (fault.BadCount n)
+  count_so none never = ap NoRoot (ap fault_in (sym is ∙ none never))
+
+  -- and where one is, no volume has it
+  pub bad_count_so : ((k : ℕ) → result ≡ Err (fault.BadCount k) → ¬ IsCount n × (k ≡ n)) → (k : ℕ) → NoRoot found ≡ NoRoot (fault.BadCount k) → ¬ IsCount n × (k ≡ n)
+  bad_count_so bad k same = bad k (is ∙ ap (λ (f : StartFault). Err (root_fault f)) same)
+
 module _ (d : List Sector) (n : ℕ) (long : length d ≡ n) (result : Result Root RootFault) (none : ¬ IsCount n → result ≡ Err (fault.BadCount n))
     (given : IsCount n → (s : Sector) → slice_get d 0 ≡ Some s → IsUnlessFault result (judged true (length d) s)) where
   module _ (found : RootFault) (is : result ≡ Err found) where

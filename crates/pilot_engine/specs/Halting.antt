@@ -69,9 +69,17 @@ UnmapHalts space count v w e =
 abbrev pub ClearHalts : View → View → Halt → Type 0
 ClearHalts v w e = MapHalts v.layout v.disk v.slots w.disk e ⊎ After Reaches (λ u x e. (id : ℕ) × OnFileHalts id (RemoveHalts id) u x e) v w e
 
+-- the frames of all pages of the root are given up
+abbrev pub EvictHalts : ℕ → View → View → Halt → Type 0
+EvictHalts count v w e = ReachHalts (BreaksWithin v count 0 root_pages) v w e
+
 -- the pages of the space tables are freed
 abbrev pub FreeTablesHalts : View → View → Halt → Type 0
 FreeTablesHalts v w e = CutFileHalts (AreTables v.slots) v.layout (kept_by v) 3 0 (λ page. page < 96) v.disk v.slots w.disk e
+
+-- files are removed, and then those pages are freed
+abbrev pub EmptyHalts : View → View → Halt → Type 0
+EmptyHalts v w e = ClearHalts v w e ⊎ FreeTablesHalts v w e
 
 -- dirty frames are written out
 abbrev pub WriteHalts : View → View → Halt → Type 0
@@ -79,4 +87,4 @@ WriteHalts v w e = Halts no_home v.disk v.slots w.disk e
 
 -- the frames of all pages of the root are given up; then one of these is done
 abbrev pub EndHalts : ℕ → View → View → Halt → Type 0
-EndHalts count v w e = ReachHalts (BreaksWithin v count 0 root_pages) v w e ⊎ After Made (λ u x e. ClearHalts u x e ⊎ (FreeTablesHalts u x e ⊎ WriteHalts u x e)) v w e
+EndHalts count v w e = EvictHalts count v w e ⊎ After Made (λ u x e. ClearHalts u x e ⊎ (FreeTablesHalts u x e ⊎ WriteHalts u x e)) v w e

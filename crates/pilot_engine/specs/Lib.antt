@@ -21,3 +21,4 @@ pub mod Sparing
 pub mod Writing
 pub mod Showing
 pub mod StoreReady
+pub mod Outcomes

@@ -1,10 +1,13 @@
 -- How a session starts.
-use Rattle.std.specs.Prelude.{◌≡◌, ◌⊎◌, ℕ, ◌+◌, ◌*◌, ◌≤◌, false, List, [], ◌∷◌, Some, length, take}
+use Rattle.std.specs.Prelude.{◌≡◌, ◌⊎◌, ℕ, ◌+◌, ◌*◌, ◌^◌, ◌<◌, ◌≤◌, false, List, [], ◌∷◌, Some, Result, length, take, IfOk, IfErr, MatchResult}
+use Rattle.labelled_disk.specs.declared.disk.Disk.{Ghosts}
 use Rattle.labelled_disk.specs.declared.disk.DiskWrite.{DiskWrite}
 use Rattle.labelled_disk.specs.declared.evidence.Halt.{Halt}
 use Rattle.labelled_disk.specs.declared.evidence.Halt.TheVariants as halt
+use Rattle.labelled_disk.specs.declared.layout.Layout.{Layout}
+use Rattle.labelled_disk.specs.declared.layout.RootFault.{RootFault}
 use Rattle.labelled_disk.specs.declared.layout.RootFault.TheVariants as fault
-use Rattle.labelled_disk.specs.Layout.{vam}
+use Rattle.labelled_disk.specs.Layout.{IsCount, vam}
 use Rattle.labelled_disk.specs.CrashState.{crash_state}
 use Rattle.labelled_disk.specs.Root.{counter_of, root_page, serial_of, short_at}
 use Rattle.labelled_disk.specs.RootLaws.{StaysRight}
@@ -17,7 +20,12 @@ use Rattle.file_map.specs.FileMap.{most_records}
 use Rattle.flat_machine.specs.Space.{root}
 use Rattle.swapper_kernel.specs.Goes.{Went, Wrote, Makes}
 use Rattle.swapper_kernel.specs.SyncLaws.{HasSync}
+use Rattle.filer_kernel.specs.declared.filer.Filer.{Filer}
+use Rattle.filer_kernel.specs.Cached.{runs_of}
 use Rattle.filer_kernel.specs.Evidence.{ShowsEvidence}
+use Rattle.filer_kernel.specs.View.{FitsLayout, view_of}
+use Rattle.file_manager.specs.declared.volume.Volume.{Volume}
+use Rattle.file_manager.specs.Creating.{IsMonotone}
 use Rattle.session_words.specs.Parts.{TablesMeaning}
 use Rattle.session_words.specs.Volume.{volume_page}
 use Rattle.volume_root.specs.declared.root.Root.{Root}
@@ -128,3 +136,26 @@ abbrev pub LeavesOpenAtStart : DiskState → StartFault → Type 0
 LeavesOpenAtStart disk (NoRoot why) = Unit {0}
 LeavesOpenAtStart disk NoMemory = Unit {0}
 LeavesOpenAtStart disk (Halted why) = LeavesOpen disk why
+
+-- The volume was refused rightly, if at all: one of a count that no volume has, and for that count alone; one that has to be refused, for this
+-- reason, unless the disk failed; and for no other reason.
+pub record Refuses {S T : Type 0} (disk : DiskState) (result : Result S (StartFault × T)) : Type 0 where
+  pub count : ¬ IsCount disk.sectors → MatchResult result (λ _. ⊥) (λ e. e.0 ≡ NoRoot (fault.BadCount disk.sectors))
+  pub bad_count : (n : ℕ) → IfErr result (λ e. e.0 ≡ NoRoot (fault.BadCount n) → ¬ IsCount disk.sectors × (n ≡ disk.sectors))
+  pub refused : (d : List Sector) (why : RootFault) → disk.contents ≡ Some d → IsRefused d why
+      → MatchResult result (λ _. ⊥) (λ e. (e.0 ≡ NoRoot why) ⊎ (e.0 ≡ NoRoot fault.Disk))
+  pub judged : (d : List Sector) → disk.contents ≡ Some d → IfErr result (λ e. IsRightRefusal d e.0)
+
+-- The root's numbers fit, and those of the volume in use are not lower.
+pub record KeepsNumbers (root : Root) (result : Result Volume Halt) : Type 0 where
+  pub serial : root.serial < 2 ^ 32
+  pub counter : root.counter < 2 ^ 32
+  pub monotone : IfOk result (λ volume. IsMonotone root volume.root)
+
+module _ {D A : Type 0} {G : Ghosts D} where
+  -- A filer over a disk of as many sectors as its layout, with no frame over a page, and no run kept.
+  pub record IsBlank (filer : Filer D A G) (layout : Layout) : Type 0 where
+    pub same_layout : layout ≡ (view_of filer).layout
+    pub size : FitsLayout (view_of filer)
+    pub bare : IsBare (view_of filer).slots
+    pub no_runs : (n : ℕ) → runs_of n filer.runs ≡ []

@@ -1,5 +1,5 @@
 -- Why a session that does not start reveals damage, from what the disk had before.
-use Rattle.std.specs.Prelude.{◌≡◌, List, [], ◌∷◌, ◌++◌, Some}
+use Rattle.std.specs.Prelude.{◌≡◌, List, [], ◌∷◌, ◌++◌, Some, Result, IfOk, IfErr, MatchResult}
 use Rattle.labelled_disk.specs.declared.disk.Disk.{Ghosts}
 use Rattle.labelled_disk.specs.declared.disk.DiskWrite.{DiskWrite}
 use Rattle.labelled_disk.specs.declared.evidence.Halt.{Halt}
@@ -10,12 +10,13 @@ use Rattle.file_map.specs.FileMap.{Triples}
 use Rattle.file_map.specs.InSectors.{MapNames}
 use Rattle.volume_root.specs.declared.root.Root.{Root}
 use Rattle.volume_root.specs.RootPage.{root_write}
-use Rattle.file_manager.specs.Reasons.{IsOfFile, InitialState, ShowsReason, WasBelow, initial_state}
+use Rattle.file_manager.specs.Reasons.{IsOfFile, InitialState, KeepsOn, ShowsReason, WasBelow, initial_state}
 use Rattle.flat_machine.specs.Space.{root}
 use Rattle.fault_core.specs.declared.core_over.Core.{Core}
 use Rattle.fault_core.specs.Lack.{MissesPage, Sees}
 use Rattle.fault_core.specs.NeverBlames.{NeverBlamesTables}
-use Rattle.filer_kernel.specs.View.{View}
+use Rattle.filer_kernel.specs.declared.filer.Filer.{Filer}
+use Rattle.filer_kernel.specs.View.{View, view_of}
 use Rattle.swapper_kernel.specs.Goes.{no_page}
 use Rattle.running_words.specs.Blameless.{NeverBlamesForm}
 use Rattle.space_calls.specs.Sees.{SeesFiles}
@@ -68,3 +69,9 @@ module _ {D A : Type 0} {G : Ghosts D} where
   -- the space tables are revealed, and in form: each page of a file that a window shows is below the end of what the file is or was
   abbrev pub SeesHome : InitialState → Core D A G → Type 0
   SeesHome o core = SeesFiles (WasBelow o (state core).disk) core
+
+  -- A start kept to this initial state, with the tables of the root alone; or its halt has its reason in it, and blames no file.
+  pub record AccountsBegun {T : Type 0} (o : InitialState) (old new : Filer D A G) (result : Result T Halt) : Type 0 where
+    pub keeps_to : IfOk result (λ _. KeepsOn o new)
+    pub reasons : IfErr result (ShowsReason o (view_of old).layout (view_of new).disk)
+    pub sees : MatchResult result (λ _. SeesRoot (view_of new)) NeverBlamesFiles

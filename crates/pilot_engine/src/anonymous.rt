@@ -1,26 +1,21 @@
 //! Windows that show a file which no call names: it comes with its window, and goes with it.
-ghost use Rattle.std.specs.Prelude.{◌≡◌, true, IfOk, IfErr, OnOk, Err, List};
-ghost use Rattle.labelled_disk.specs.Calls.{Rose};
-ghost use Rattle.labelled_disk.specs.declared.evidence.Halt.TheVariants as halt;
-ghost use Rattle.filer_kernel.specs.Evidence.{ShowsEvidence};
+ghost use Rattle.std.specs.Prelude.{◌≡◌, true, IfOk, IfErr, OnOk, List};
 ghost use Rattle.flat_machine.specs.declared.call.Call.TheVariants as call;
 ghost use Rattle.flat_machine.specs.declared.call.Reply.TheVariants as reply;
 ghost use Rattle.flat_machine.specs.Machine.{Machine};
 ghost use Rattle.running_words.specs.Running.{Runs};
-ghost use Rattle.running_words.specs.Session.{IsOpen, Wrote};
 ghost use Rattle.fault_core.specs.Core.{kept, state};
-ghost use Rattle.pilot_engine.specs.Writing.{FileMay, WritesAllowed, Written};
-ghost use Rattle.pilot_engine.specs.Sparing.{SparesAll, SparesBut};
+ghost use Rattle.pilot_engine.specs.Sparing.{SparesAll};
 ghost use Rattle.pilot_engine.specs.Halting.{MapNewHalts, UnmapHalts};
 ghost use Rattle.file_manager.specs.Creating.{next_id};
 ghost use Rattle.file_manager.specs.Reasons.{KeepsOn, InitialState, IsNotOlder, giving};
 ghost use Rattle.fault_core.specs.Lack.{MissesPage, Sees};
 ghost use Rattle.flat_machine.specs.declared.space.Space.{Space};
 ghost use Rattle.pilot_engine.specs.Stepping.{missing_page};
-ghost use Rattle.filer_kernel.specs.View.{FitsLayout};
-ghost use Rattle.pilot_engine.specs.Calls.{Accounts, Answers, Stays};
+ghost use Rattle.pilot_engine.specs.Calls.{Accounts, Answers};
 ghost use Rattle.pilot_engine.specs.Showing.{ShowsMapped};
 ghost use Rattle.space_calls.specs.Sees.{StillOn};
+ghost use Rattle.pilot_engine.specs.Outcomes.{FailsBy, IsSetUp, Remains, WritesFile, WritesNew};
 
 use crate::Session;
 use flat_machine::Reply;
@@ -33,27 +28,18 @@ use table_calls::can_map;
 impl<D: Disk, A: Allocator> Session<D, A> {
     // Takes the window of a space away, and an anonymous one's file with it. What was written is on the medium then.
     pub(crate) fn unmap(&mut self, space: u32) -> Result<Reply, Halt>
-        requires size { FitsLayout (state self.old.core) }
-        requires opened { IsOpen (state self.old.core).layout self.old.volume }
+        requires set_up { IsSetUp self.old }
         ensures answers { (m : Machine) → Runs self.old.core self.old.volume m
             → Answers m (call.Unmap space) self.old self.new result }
         ensures synced { IfOk result (λ answer. answer ≡ reply.Done → (state self.new.core).disk.synced ≡ true) }
-        ensures counted { result ≡ Err halt.Disk
-            → Rose (state self.old.core).disk.faults (state self.new.core).disk.faults }
-        ensures cause { IfErr result
-            (UnmapHalts space self.old.core.intervals (state self.old.core) (state self.new.core)) }
+        ensures fails { FailsBy (UnmapHalts space self.old.core.intervals) self.old self.new result }
         ensures missing { (ss : List Space) → Sees (state self.old.core) (kept self.old.core) self.old.core.intervals ss
             → IfErr result (MissesPage (missing_page (call.Unmap space) ss)) }
         ensures accounts { (o : InitialState) → KeepsOn o self.old.core.filer → Accounts o o self.old self.new result }
         ensures windows { (o : InitialState) → KeepsOn o self.old.core.filer
             → OnOk result (StillOn self.old.core self.new.core) }
-        ensures evidence_seen { IfErr result (ShowsEvidence (state self.new.core).disk) }
-        ensures wrote { Wrote (state self.old.core).disk (state self.old.core).slots (state self.new.core).disk
-            (state self.new.core).slots }
-        ensures own { Written (FileMay (call.Unmap space)) (state self.old.core).disk (state self.new.core).disk }
-        ensures spares { SparesAll (state self.old.core).disk (state self.new.core).disk }
-        ensures stays { Stays self.old self.new }
-        ensures running { self.new.running ≡ self.old.running }
+        ensures writes { WritesFile (call.Unmap space) SparesAll self.old self.new }
+        ensures remains { Remains self.old self.new }
     {
         let shown = match take_window(&mut self.core, space) {
             Ok(Ok(shown)) => shown,
@@ -75,26 +61,16 @@ impl<D: Disk, A: Allocator> Session<D, A> {
 
     // Shows a new file of zero pages in a space, of its size.
     pub(crate) fn map_anonymous(&mut self, space: u32) -> Result<Reply, Halt>
-        requires size { FitsLayout (state self.old.core) }
-        requires opened { IsOpen (state self.old.core).layout self.old.volume }
+        requires set_up { IsSetUp self.old }
         ensures answers { (m : Machine) → Runs self.old.core self.old.volume m
             → Answers m (call.MapAnonymous space) self.old self.new result }
-        ensures counted { result ≡ Err halt.Disk
-            → Rose (state self.old.core).disk.faults (state self.new.core).disk.faults }
-        ensures cause { IfErr result
-            (MapNewHalts (next_id self.old.volume.root) self.old.core.intervals (state self.old.core)
-            (state self.new.core)) }
+        ensures fails { FailsBy (MapNewHalts (next_id self.old.volume.root) self.old.core.intervals) self.old self.new
+            result }
         ensures accounts { (o : InitialState) → KeepsOn o self.old.core.filer → IsNotOlder o self.old.volume.root
             → Accounts o (giving o (next_id self.new.volume.root)) self.old self.new result }
         ensures windows { ShowsMapped (call.MapAnonymous space) self.old self.new result }
-        ensures evidence_seen { IfErr result (ShowsEvidence (state self.new.core).disk) }
-        ensures wrote { Wrote (state self.old.core).disk (state self.old.core).slots (state self.new.core).disk
-            (state self.new.core).slots }
-        ensures own { WritesAllowed (call.MapAnonymous space) self.old self.new result }
-        ensures spares { SparesBut (next_id self.old.volume.root) (state self.old.core).disk
-            (state self.new.core).disk }
-        ensures stays { Stays self.old self.new }
-        ensures running { self.new.running ≡ self.old.running }
+        ensures writes { WritesNew (call.MapAnonymous space) self.old self.new result }
+        ensures remains { Remains self.old self.new }
     {
         let run = match can_map(&mut self.core, space) {
             Ok(Ok(run)) => run,

@@ -1,22 +1,15 @@
 //! Calls that ask, and change nothing.
-ghost use Rattle.std.specs.Prelude.{◌≡◌, ◌+◌, ◌≤◌, IfOk, IfErr, Err};
-ghost use Rattle.labelled_disk.specs.Calls.{Rose};
+ghost use Rattle.std.specs.Prelude.{◌≡◌, ◌+◌, ◌≤◌, IfErr};
 ghost use Rattle.labelled_disk.specs.declared.evidence.Halt.TheVariants as halt;
-ghost use Rattle.filer_kernel.specs.Evidence.{ShowsEvidence};
 ghost use Rattle.flat_machine.specs.declared.call.Call.TheVariants as call;
 ghost use Rattle.flat_machine.specs.Machine.{Machine};
 ghost use Rattle.session_words.specs.Parts.{TablesMeaning};
-ghost use Rattle.running_words.specs.Session.{IsOpen, IsSession, Carries, Wrote};
-ghost use Rattle.running_words.specs.Stages.{Passes};
-ghost use Rattle.fault_core.specs.Core.{kept, state};
+ghost use Rattle.fault_core.specs.Core.{state};
 ghost use Rattle.fault_core.specs.Reach.{BringsOwn};
 ghost use Rattle.running_words.specs.Running.{Runs};
 ghost use Rattle.space_calls.specs.Halts.{NamedHalts};
-ghost use Rattle.file_manager.specs.Reasons.{KeepsOn, InitialState};
-ghost use Rattle.filer_kernel.specs.View.{FitsLayout};
-ghost use Rattle.pilot_engine.specs.Showing.{KeepsWindows};
-ghost use Rattle.pilot_engine.specs.Calls.{Accounts, Answers, Stays};
-ghost use Rattle.pilot_engine.specs.Labels.{WritesPagesAlone};
+ghost use Rattle.pilot_engine.specs.Calls.{Answers};
+ghost use Rattle.pilot_engine.specs.Outcomes.{AccountsOn, AnswersIn, FailsBy, IsIn, IsSetUp, Remains, RemainsInside, WritesPages};
 
 use crate::Session;
 use file_manager::Attributes;
@@ -28,37 +21,16 @@ use std::alloc::Allocator;
 impl<D: Disk, A: Allocator> Session<D, A> {
     // How many sectors files may have, and how many of them are free.
     pub(crate) fn volume(&mut self) -> Result<Reply, Halt>
-        requires size { FitsLayout (state self.old.core) }
-        requires opened { IsOpen (state self.old.core).layout self.old.volume }
-        ensures carried { (spaces_of : TablesMeaning) (m : Machine)
-            → IsSession spaces_of (state self.old.core).disk (state self.old.core).slots (state self.old.core).layout
-            (state self.old.core).runs self.old.volume m
-            → IfOk result
-            (λ reply.
-            Carries spaces_of m (call.Volume) reply (state self.new.core).disk (state self.new.core).slots
-            (state self.new.core).layout (state self.new.core).runs self.new.volume) }
-        ensures sound { (spaces_of : TablesMeaning) (m : Machine)
-            → IsSession spaces_of (state self.old.core).disk (state self.old.core).slots (state self.old.core).layout
-            (state self.old.core).runs self.old.volume m
+        requires set_up { IsSetUp self.old }
+        ensures answers { (spaces_of : TablesMeaning) (m : Machine) → IsIn spaces_of self.old m
+            → AnswersIn spaces_of m (call.Volume) self.old self.new result }
+        ensures sound { (spaces_of : TablesMeaning) (m : Machine) → IsIn spaces_of self.old m
             → IfErr result (λ e. e ≡ halt.Disk) }
-        ensures passes { (spaces_of : TablesMeaning) (m : Machine)
-            → IsSession spaces_of (state self.old.core).disk (state self.old.core).slots (state self.old.core).layout
-            (state self.old.core).runs self.old.volume m
-            → Passes m (call.Volume) (state self.old.core).disk (state self.new.core).disk }
         ensures came { BringsOwn (state self.old.core).slots (state self.new.core).slots }
-        ensures counted { result ≡ Err halt.Disk
-            → Rose (state self.old.core).disk.faults (state self.new.core).disk.faults }
-        ensures cause { IfErr result (λ e. ⊥) }
-        ensures accounts { (o : InitialState) → KeepsOn o self.old.core.filer → Accounts o o self.old self.new result }
-        ensures windows { KeepsWindows self.old self.new result }
-        ensures evidence_seen { IfErr result (ShowsEvidence (state self.new.core).disk) }
-        ensures wrote { Wrote (state self.old.core).disk (state self.old.core).slots (state self.new.core).disk
-            (state self.new.core).slots }
-        ensures unlabelled { WritesPagesAlone (state self.old.core).disk (state self.new.core).disk }
-        ensures stays { Stays self.old self.new }
-        ensures running { self.new.running ≡ self.old.running }
-        ensures kept { kept self.new.core ≡ kept self.old.core }
-        ensures intervals { self.new.core.intervals ≡ self.old.core.intervals }
+        ensures fails { FailsBy (λ v w e. ⊥) self.old self.new result }
+        ensures accounts { AccountsOn self.old self.new result }
+        ensures writes { WritesPages self.old self.new }
+        ensures remains { RemainsInside self.old self.new }
         ensures cost { (state self.new.core).disk.transfers ≤ (state self.old.core).disk.transfers + 0 }
     {
         let capacity = self.volume.layout.capacity;
@@ -68,22 +40,13 @@ impl<D: Disk, A: Allocator> Session<D, A> {
 
     // Size, type and marks of a file, unless it is anonymous.
     pub(crate) fn attributes(&mut self, id: FileId) -> Result<Reply, Halt>
-        requires size { FitsLayout (state self.old.core) }
-        requires opened { IsOpen (state self.old.core).layout self.old.volume }
+        requires set_up { IsSetUp self.old }
         ensures answers { (m : Machine) → Runs self.old.core self.old.volume m
             → Answers m (call.Attributes id) self.old self.new result }
-        ensures counted { result ≡ Err halt.Disk
-            → Rose (state self.old.core).disk.faults (state self.new.core).disk.faults }
-        ensures cause { IfErr result
-            (NamedHalts id self.old.core.intervals (state self.old.core) (state self.new.core)) }
-        ensures accounts { (o : InitialState) → KeepsOn o self.old.core.filer → Accounts o o self.old self.new result }
-        ensures windows { KeepsWindows self.old self.new result }
-        ensures evidence_seen { IfErr result (ShowsEvidence (state self.new.core).disk) }
-        ensures wrote { Wrote (state self.old.core).disk (state self.old.core).slots (state self.new.core).disk
-            (state self.new.core).slots }
-        ensures unlabelled { WritesPagesAlone (state self.old.core).disk (state self.new.core).disk }
-        ensures stays { Stays self.old self.new }
-        ensures running { self.new.running ≡ self.old.running }
+        ensures fails { FailsBy (NamedHalts id self.old.core.intervals) self.old self.new result }
+        ensures accounts { AccountsOn self.old self.new result }
+        ensures writes { WritesPages self.old self.new }
+        ensures remains { Remains self.old self.new }
     {
         let found = match named_file(&mut self.core, id) {
             Ok(Some(found)) => found,

@@ -1,14 +1,12 @@
 //! A volume that is closed: both maps and the clean root come to the medium.
-ghost use Rattle.std.specs.Prelude.{◌≡◌, ℕ, ◌+◌, ◌^◌, ◌<◌, ◌≤◌, true, List, IfErr, OnOk, OnErr, Err, Some};
+ghost use Rattle.std.specs.Prelude.{◌≡◌, ℕ, ◌+◌, ◌^◌, ◌<◌, ◌≤◌, true, List, IfErr, OnOk, OnErr, Some};
 ghost use Rattle.labelled_disk.specs.declared.evidence.Halt.TheVariants as halt;
 ghost use Rattle.labelled_disk.specs.Calls.{Rose};
 ghost use Rattle.labelled_disk.specs.Sectors.{Sector};
-ghost use Rattle.filer_kernel.specs.Evidence.{ShowsEvidence};
 ghost use Rattle.flat_machine.specs.Machine.{Machine};
 ghost use Rattle.flat_machine.specs.Space.{root};
 ghost use Rattle.swapper_kernel.specs.Goes.{IsDirty};
 ghost use Rattle.swapper_kernel.specs.Maps.{id_of};
-ghost use Rattle.running_words.specs.Session.{IsOpen};
 ghost use Rattle.pilot_engine.specs.Closing.{AreWritten, IsOpenStop, IsReady, IsStop, RevealsShut, MayClose, Throughout, WroteAny, closed_root};
 ghost use Rattle.fault_core.specs.Core.{state};
 ghost use Rattle.pilot_engine.specs.Sparing.{SparesAll};
@@ -17,6 +15,7 @@ ghost use Rattle.pilot_engine.specs.Halting.{Made, WriteHalts};
 ghost use Rattle.file_manager.specs.Reasons.{KeepsBare, InitialState, ShowsReason};
 ghost use Rattle.pilot_engine.specs.Reasons.{NeverBlamesEnd};
 ghost use Rattle.filer_kernel.specs.View.{FitsLayout, HasMemory, SwapsOnly};
+ghost use Rattle.pilot_engine.specs.Outcomes.{FailsBy, IsSetUp};
 
 use crate::Session;
 use force_calls::flush;
@@ -54,15 +53,12 @@ impl<D: Disk, A: Allocator> Session<D, A> {
         requires size { FitsLayout (state self.old.core) }
         ensures clean { OnOk result ((page : ℕ) → IsDirty (state self.new.core).slots (id_of which) page → ⊥) }
         ensures sound { (x : List Sector) → HasMemory (state self.old.core) x → IfErr result (λ e. e ≡ halt.Disk) }
-        ensures counted { result ≡ Err halt.Disk
-            → Rose (state self.old.core).disk.faults (state self.new.core).disk.faults }
-        ensures cause { IfErr result (WriteHalts (state self.old.core) (state self.new.core)) }
+        ensures fails { FailsBy WriteHalts self.old self.new result }
         ensures keeps_to { (o : InitialState) → KeepsBare o self.old.core.filer
             → OnOk result (KeepsBare o self.new.core.filer) }
         ensures reasons { (o : InitialState) → KeepsBare o self.old.core.filer
             → IfErr result (ShowsReason o (state self.old.core).layout (state self.new.core).disk) }
         ensures right { (o : InitialState) → IfErr result (NeverBlamesEnd o (state self.new.core).disk) }
-        ensures evidence_seen { IfErr result (ShowsEvidence (state self.new.core).disk) }
         ensures swaps { SwapsOnly (state self.old.core) (state self.new.core) }
         ensures layout { (state self.new.core).layout ≡ (state self.old.core).layout }
         ensures volume { self.new.volume ≡ self.old.volume }
@@ -82,15 +78,12 @@ impl<D: Disk, A: Allocator> Session<D, A> {
         requires size { FitsLayout (state self.old.core) }
         ensures clean { OnOk result (AreWritten (state self.new.core).slots) }
         ensures sound { (x : List Sector) → HasMemory (state self.old.core) x → IfErr result (λ e. e ≡ halt.Disk) }
-        ensures counted { result ≡ Err halt.Disk
-            → Rose (state self.old.core).disk.faults (state self.new.core).disk.faults }
-        ensures cause { IfErr result (After Made WriteHalts (state self.old.core) (state self.new.core)) }
+        ensures fails { FailsBy (After Made WriteHalts) self.old self.new result }
         ensures keeps_to { (o : InitialState) → KeepsBare o self.old.core.filer
             → OnOk result (KeepsBare o self.new.core.filer) }
         ensures reasons { (o : InitialState) → KeepsBare o self.old.core.filer
             → IfErr result (ShowsReason o (state self.old.core).layout (state self.new.core).disk) }
         ensures right { (o : InitialState) → IfErr result (NeverBlamesEnd o (state self.new.core).disk) }
-        ensures evidence_seen { IfErr result (ShowsEvidence (state self.new.core).disk) }
         ensures swaps { SwapsOnly (state self.old.core) (state self.new.core) }
         ensures layout { (state self.new.core).layout ≡ (state self.old.core).layout }
         ensures volume { self.new.volume ≡ self.old.volume }
@@ -112,13 +105,10 @@ impl<D: Disk, A: Allocator> Session<D, A> {
         ensures clean { OnOk result (AreWritten (state self.new.core).slots) }
         ensures synced { OnOk result ((state self.new.core).disk.synced ≡ true) }
         ensures sound { (x : List Sector) → HasMemory (state self.old.core) x → IfErr result (λ e. e ≡ halt.Disk) }
-        ensures counted { result ≡ Err halt.Disk
-            → Rose (state self.old.core).disk.faults (state self.new.core).disk.faults }
-        ensures cause { IfErr result (After Made WriteHalts (state self.old.core) (state self.new.core)) }
+        ensures fails { FailsBy (After Made WriteHalts) self.old self.new result }
         ensures reasons { (o : InitialState) → KeepsBare o self.old.core.filer
             → IfErr result (ShowsReason o (state self.old.core).layout (state self.new.core).disk) }
         ensures right { (o : InitialState) → IfErr result (NeverBlamesEnd o (state self.new.core).disk) }
-        ensures evidence_seen { IfErr result (ShowsEvidence (state self.new.core).disk) }
         ensures swaps { SwapsOnly (state self.old.core) (state self.new.core) }
         ensures layout { (state self.new.core).layout ≡ (state self.old.core).layout }
         ensures volume { self.new.volume ≡ self.old.volume }
@@ -136,8 +126,7 @@ impl<D: Disk, A: Allocator> Session<D, A> {
 
     // Writes the root of the closed volume.
     pub(crate) fn write_clean(&mut self) -> Result<(), Halt>
-        requires size { FitsLayout (state self.old.core) }
-        requires opened { IsOpen (state self.old.core).layout self.old.volume }
+        requires set_up { IsSetUp self.old }
         ensures made { (m : Machine) → IsReady m self.old.volume.root (state self.old.core).disk
             → OnOk result (RevealsShut m (state self.new.core).disk) }
         ensures fault { IfErr result (λ e. e ≡ halt.Disk) }

@@ -1,29 +1,21 @@
 //! Files that are deleted.
-ghost use Rattle.std.specs.Prelude.{◌≡◌, ◌+◌, ◌*◌, ◌^◌, ◌≤◌, true, ◌&&◌, IfOk, IfErr, IfSome, IsFalse, Err, None, OnOk};
-ghost use Rattle.labelled_disk.specs.Calls.{Rose};
+ghost use Rattle.std.specs.Prelude.{◌≡◌, ◌+◌, ◌*◌, ◌^◌, ◌≤◌, true, ◌&&◌, IfErr, IfSome, IsFalse, None};
 ghost use Rattle.labelled_disk.specs.File.{file_at};
 ghost use Rattle.labelled_disk.specs.declared.evidence.Halt.TheVariants as halt;
-ghost use Rattle.filer_kernel.specs.Evidence.{ShowsEvidence};
 ghost use Rattle.flat_machine.specs.declared.call.Call.TheVariants as call;
 ghost use Rattle.file_map.specs.FileMap.{most_records};
 ghost use Rattle.flat_machine.specs.Machine.{Machine};
-ghost use Rattle.pilot_engine.specs.Writing.{FileMay, Written};
 ghost use Rattle.pilot_engine.specs.Sparing.{SparesAll, SparesBut};
 ghost use Rattle.label_calls.specs.Synced.{SyncsLeaders};
 ghost use Rattle.session_words.specs.Parts.{TablesMeaning};
-ghost use Rattle.running_words.specs.Session.{IsOpen, IsSession, Carries, Wrote};
-ghost use Rattle.running_words.specs.Stages.{Passes};
 ghost use Rattle.flat_machine.specs.Refusal.{file_mapped};
-ghost use Rattle.fault_core.specs.Reach.{BringsOwn};
-ghost use Rattle.fault_core.specs.Core.{kept, state};
+ghost use Rattle.fault_core.specs.Core.{state};
 ghost use Rattle.running_words.specs.Running.{Runs};
 ghost use Rattle.pilot_engine.specs.Seen.{CostsInside};
 ghost use Rattle.space_calls.specs.Halts.{OnFileHalts, OnNamedHalts};
 ghost use Rattle.pilot_engine.specs.Halting.{RemoveHalts};
-ghost use Rattle.file_manager.specs.Reasons.{KeepsOn, InitialState};
-ghost use Rattle.filer_kernel.specs.View.{FitsLayout};
-ghost use Rattle.pilot_engine.specs.Showing.{KeepsWindows};
-ghost use Rattle.pilot_engine.specs.Calls.{Accounts, Answers, Stays};
+ghost use Rattle.pilot_engine.specs.Calls.{Answers};
+ghost use Rattle.pilot_engine.specs.Outcomes.{AccountsOn, AnswersIn, FailsBy, IsIn, IsSetUp, Remains, RemainsInside, WritesFile};
 
 use crate::Session;
 use crate::sight::Sight;
@@ -42,56 +34,24 @@ fn is_kept(anonymous: bool, permanent: bool) -> bool
 impl<D: Disk, A: Allocator> Session<D, A> {
     // Removes a file that no window shows: an anonymous one unless it is permanent.
     pub(crate) fn delete_unseen(&mut self, id: FileId, anonymous: bool) -> Result<Reply, Halt>
-        requires size { FitsLayout (state self.old.core) }
-        requires opened { IsOpen (state self.old.core).layout self.old.volume }
-        ensures carried { (spaces_of : TablesMeaning) (m : Machine)
-            → IsSession spaces_of (state self.old.core).disk (state self.old.core).slots (state self.old.core).layout
-            (state self.old.core).runs self.old.volume m
+        requires set_up { IsSetUp self.old }
+        ensures answers { (spaces_of : TablesMeaning) (m : Machine) → IsIn spaces_of self.old m
             → file_mapped m id (λ w. true) ≡ None
             → (anonymous ≡ true → IfSome (file_at m.files id) (λ f. IsFalse f.permanent))
-            → IfOk result
-            (λ reply.
-            Carries spaces_of m (call.Delete id) reply (state self.new.core).disk (state self.new.core).slots
-            (state self.new.core).layout (state self.new.core).runs self.new.volume) }
-        ensures sound { (spaces_of : TablesMeaning) (m : Machine)
-            → IsSession spaces_of (state self.old.core).disk (state self.old.core).slots (state self.old.core).layout
-            (state self.old.core).runs self.old.volume m
+            → AnswersIn spaces_of m (call.Delete id) self.old self.new result }
+        ensures sound { (spaces_of : TablesMeaning) (m : Machine) → IsIn spaces_of self.old m
             → file_mapped m id (λ w. true) ≡ None
             → (anonymous ≡ true → IfSome (file_at m.files id) (λ f. IsFalse f.permanent))
             → IfErr result (λ e. e ≡ halt.Disk) }
-        ensures passes { (spaces_of : TablesMeaning) (m : Machine)
-            → IsSession spaces_of (state self.old.core).disk (state self.old.core).slots (state self.old.core).layout
-            (state self.old.core).runs self.old.volume m
-            → file_mapped m id (λ w. true) ≡ None
-            → (anonymous ≡ true → IfSome (file_at m.files id) (λ f. IsFalse f.permanent))
-            → Passes m (call.Delete id) (state self.old.core).disk (state self.new.core).disk }
-        ensures came { (spaces_of : TablesMeaning) (m : Machine)
-            → IsSession spaces_of (state self.old.core).disk (state self.old.core).slots (state self.old.core).layout
-            (state self.old.core).runs self.old.volume m
-            → file_mapped m id (λ w. true) ≡ None
-            → (anonymous ≡ true → IfSome (file_at m.files id) (λ f. IsFalse f.permanent))
-            → OnOk result (BringsOwn (state self.old.core).slots (state self.new.core).slots) }
-        ensures counted { result ≡ Err halt.Disk
-            → Rose (state self.old.core).disk.faults (state self.new.core).disk.faults }
-        ensures cause { IfErr result (OnFileHalts id (RemoveHalts id) (state self.old.core) (state self.new.core)) }
-        ensures accounts { (o : InitialState) → KeepsOn o self.old.core.filer → Accounts o o self.old self.new result }
-        ensures windows { KeepsWindows self.old self.new result }
-        ensures evidence_seen { IfErr result (ShowsEvidence (state self.new.core).disk) }
-        ensures wrote { Wrote (state self.old.core).disk (state self.old.core).slots (state self.new.core).disk
-            (state self.new.core).slots }
-        ensures stays { Stays self.old self.new }
-        ensures running { self.new.running ≡ self.old.running }
-        ensures kept { kept self.new.core ≡ kept self.old.core }
-        ensures intervals { self.new.core.intervals ≡ self.old.core.intervals }
+        ensures fails { FailsBy (OnFileHalts id (RemoveHalts id)) self.old self.new result }
+        ensures accounts { AccountsOn self.old self.new result }
+        ensures writes { WritesFile (call.Delete id) (SparesBut id) self.old self.new }
+        ensures remains { RemainsInside self.old self.new }
         ensures cost { (state self.new.core).disk.transfers ≤ (state self.old.core).disk.transfers
             + (43 + 2 ^ 32 * (16 + 4 * (state self.old.core).layout.vam) + 2
             * (1 + 51 * most_records (state self.old.core).layout.sectors)) }
-        ensures bounded { (spaces_of : TablesMeaning) (m : Machine)
-            → IsSession spaces_of (state self.old.core).disk (state self.old.core).slots (state self.old.core).layout
-            (state self.old.core).runs self.old.volume m
+        ensures bounded { (spaces_of : TablesMeaning) (m : Machine) → IsIn spaces_of self.old m
             → CostsInside (state self.old.core).disk (state self.new.core).disk }
-        ensures own { Written (FileMay (call.Delete id)) (state self.old.core).disk (state self.new.core).disk }
-        ensures spares { SparesBut id (state self.old.core).disk (state self.new.core).disk }
         ensures lasting { anonymous ≡ true → SparesAll (state self.old.core).disk (state self.new.core).disk }
         ensures around { SyncsLeaders result (state self.old.core).disk (state self.new.core).disk }
     {
@@ -111,23 +71,13 @@ impl<D: Disk, A: Allocator> Session<D, A> {
 
     // Removes a file, unless a window shows it.
     pub(crate) fn delete(&mut self, id: FileId) -> Result<Reply, Halt>
-        requires size { FitsLayout (state self.old.core) }
-        requires opened { IsOpen (state self.old.core).layout self.old.volume }
+        requires set_up { IsSetUp self.old }
         ensures answers { (m : Machine) → Runs self.old.core self.old.volume m
             → Answers m (call.Delete id) self.old self.new result }
-        ensures counted { result ≡ Err halt.Disk
-            → Rose (state self.old.core).disk.faults (state self.new.core).disk.faults }
-        ensures cause { IfErr result
-            (OnNamedHalts id self.old.core.intervals (RemoveHalts id) (state self.old.core) (state self.new.core)) }
-        ensures accounts { (o : InitialState) → KeepsOn o self.old.core.filer → Accounts o o self.old self.new result }
-        ensures windows { KeepsWindows self.old self.new result }
-        ensures evidence_seen { IfErr result (ShowsEvidence (state self.new.core).disk) }
-        ensures wrote { Wrote (state self.old.core).disk (state self.old.core).slots (state self.new.core).disk
-            (state self.new.core).slots }
-        ensures stays { Stays self.old self.new }
-        ensures running { self.new.running ≡ self.old.running }
-        ensures own { Written (FileMay (call.Delete id)) (state self.old.core).disk (state self.new.core).disk }
-        ensures spares { SparesBut id (state self.old.core).disk (state self.new.core).disk }
+        ensures fails { FailsBy (OnNamedHalts id self.old.core.intervals (RemoveHalts id)) self.old self.new result }
+        ensures accounts { AccountsOn self.old self.new result }
+        ensures writes { WritesFile (call.Delete id) (SparesBut id) self.old self.new }
+        ensures remains { Remains self.old self.new }
         ensures around { SyncsLeaders result (state self.old.core).disk (state self.new.core).disk }
     {
         let seen = match self.sight(id) {

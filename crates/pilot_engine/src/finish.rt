@@ -15,6 +15,7 @@ ghost use Rattle.pilot_engine.specs.Halting.{EndHalts};
 ghost use Rattle.file_manager.specs.Reasons.{KeepsOn, InitialState, ShowsReason};
 ghost use Rattle.pilot_engine.specs.Reasons.{SeesHome, NeverBlamesEnd};
 ghost use Rattle.filer_kernel.specs.View.{disk_of, FitsLayout};
+ghost use Rattle.pilot_engine.specs.Outcomes.{EndsIn, FailsBy, IsSetUp};
 
 use crate::Session;
 use labelled_disk::{Disk, Halt};
@@ -24,23 +25,16 @@ use std::alloc::Allocator;
 impl<D: Disk, A: Allocator> Session<D, A> {
     // Closes the volume.
     fn close(&mut self) -> Result<(), Halt>
-        requires size { FitsLayout (state self.old.core) }
-        requires opened { IsOpen (state self.old.core).layout self.old.volume }
-        ensures closed { (m : Machine) → Runs self.old.core self.old.volume m
-            → OnOk result (HasShut m (state self.new.core).disk) }
-        ensures sound { (m : Machine) → Runs self.old.core self.old.volume m
-            → IfErr result (λ e. e ≡ halt.Disk) }
+        requires set_up { IsSetUp self.old }
+        ensures ends { (m : Machine) → Runs self.old.core self.old.volume m
+            → EndsIn (IsStop m) (λ _. HasShut m (state self.new.core).disk)
+            (state self.old.core).disk (state self.new.core).disk result }
         ensures synced { OnOk result ((state self.new.core).disk.synced ≡ true) }
-        ensures stops { (m : Machine) → Runs self.old.core self.old.volume m
-            → Throughout (IsStop m) (state self.old.core).disk (state self.new.core).disk }
-        ensures counted { result ≡ Err halt.Disk
-            → Rose (state self.old.core).disk.faults (state self.new.core).disk.faults }
-        ensures cause { IfErr result (EndHalts self.old.core.intervals (state self.old.core) (state self.new.core)) }
+        ensures fails { FailsBy (EndHalts self.old.core.intervals) self.old self.new result }
         ensures reasons { (o : InitialState) → KeepsOn o self.old.core.filer
             → IfErr result (ShowsReason o (state self.old.core).layout (state self.new.core).disk) }
         ensures sees { (o : InitialState) → KeepsOn o self.old.core.filer → SeesHome o self.old.core
             → IfErr result (NeverBlamesEnd o (state self.new.core).disk) }
-        ensures evidence_seen { IfErr result (ShowsEvidence (state self.new.core).disk) }
         ensures left_open { IsUnset (state self.old.core).disk → IfErr result (LeavesOpen (state self.new.core).disk) }
         ensures wrote { WroteAny self.old.volume.root (state self.old.core).disk (state self.old.core).slots
             (state self.new.core).disk (state self.new.core).slots }

@@ -1,22 +1,22 @@
 //! A session is started on a volume that is made for it.
-ghost use Rattle.std.specs.Prelude.{◌≡◌, ◌⊎◌, ℕ, ◌≤◌, ◌<◌, List, [], Some, true, length, Err, IfOk, IfErr, OnOk, OnErr, MatchResult};
+ghost use Rattle.std.specs.Prelude.{◌≡◌, ◌⊎◌, ◌≤◌, ◌<◌, List, Some, true, length, IfOk, IfErr, OnOk, OnErr, MatchResult};
 ghost use Rattle.labelled_disk.specs.declared.evidence.Halt.TheVariants as halt;
 ghost use Rattle.labelled_disk.specs.declared.layout.RootFault.TheVariants as fault;
 ghost use Rattle.labelled_disk.specs.Calls.{OnlyReads, Rose};
 ghost use Rattle.labelled_disk.specs.Layout.{IsCount, capacity};
 ghost use Rattle.labelled_disk.specs.Sectors.{Sector};
-ghost use Rattle.filer_kernel.specs.Cached.{runs_of};
 ghost use Rattle.flat_machine.specs.Start.{opened};
 ghost use Rattle.volume_root.specs.Format.{new_root};
 ghost use Rattle.volume_root.specs.Later.{IsLater};
 ghost use Rattle.pilot_engine.specs.declared.fault.StartFault.TheVariants as start_fault;
 ghost use Rattle.pilot_engine.specs.Fresh.{BeganVolume, HasFreshCause, IsFreshFault, MadeVolume, WroteOnNew};
 ghost use Rattle.pilot_engine.specs.NewCrashStates.{KeepsNew};
-ghost use Rattle.pilot_engine.specs.Opening.{IsBare, IsDiskFault, IsEarly, IsOutside, IsSoAtStart, IsUnset, LeavesOpenAtStart};
+ghost use Rattle.pilot_engine.specs.Opening.{IsDiskFault, IsEarly, IsOutside, IsSoAtStart, IsUnset, LeavesOpenAtStart, IsBlank};
 ghost use Rattle.running_words.specs.Running.{Runs};
 ghost use Rattle.running_words.specs.Session.{IsOpen};
 ghost use Rattle.filer_kernel.specs.View.{disk_of, FitsLayout, view_of};
 ghost use Rattle.fault_core.specs.Core.{state};
+ghost use Rattle.file_manager.specs.Stays.{FramesStay};
 
 use crate::start::begin;
 use crate::{Session, StartFault};
@@ -36,11 +36,8 @@ fn frames_for<D: Disk, A: Allocator>(
     requires least { 24 ≤ frames }
     requires most { frames ≤ 4096 }
     ensures count { IfOk result (λ r. IsCount (D.state disk).sectors) }
-    ensures layout { IfOk result (λ r. r.1 ≡ (view_of r.0).layout) }
-    ensures size { IfOk result (λ r. (view_of r.0).disk.sectors ≡ (view_of r.0).layout.sectors) }
+    ensures blank { IfOk result (λ r. IsBlank r.0 r.1) }
     ensures disk { IfOk result (λ r. (disk_of r.0) ≡ disk) }
-    ensures bare { IfOk result (λ r. IsBare (view_of r.0).slots) }
-    ensures no_runs { IfOk result (λ r. (n : ℕ) → runs_of n r.0.runs ≡ []) }
     ensures frames { IfOk result (λ r. length (view_of r.0).slots ≡ frames) }
     ensures refused { IfErr result (λ e. IsFreshFault (D.state disk).sectors e.0 × IsEarly e.0) }
     ensures back { IfErr result (λ e. e.1 ≡ disk) }
@@ -61,12 +58,10 @@ fn make_volume<D: Disk, A: Allocator>(filer: &mut Filer<D, A>) -> Result<Root, H
     ensures root { IfOk result (λ root. root ≡ new_root (view_of filer.old).disk.sectors 1 1) }
     ensures made { OnOk result (MadeVolume (view_of filer.old).disk (view_of filer.new).disk) }
     ensures part { OnErr result (BeganVolume (view_of filer.old).disk (view_of filer.new).disk) }
-    ensures fault { IfErr result (λ e. e ≡ halt.Disk) }
-    ensures counted { OnErr result (Rose (view_of filer.old).disk.faults (view_of filer.new).disk.faults) }
+    ensures fault { IfErr result
+        (λ e. (e ≡ halt.Disk) × Rose (view_of filer.old).disk.faults (view_of filer.new).disk.faults) }
     ensures later { IsLater (view_of filer.old).disk (view_of filer.new).disk }
-    ensures frames { (view_of filer.new).slots ≡ (view_of filer.old).slots }
-    ensures layout { (view_of filer.new).layout ≡ (view_of filer.old).layout }
-    ensures runs { (view_of filer.new).runs ≡ (view_of filer.old).runs }
+    ensures stays { FramesStay (view_of filer.old) (view_of filer.new) }
 {
     let disk = filer.disk_over();
     match format(disk, 1, 1) {

@@ -1,10 +1,9 @@
 //! A session is started over a root that was read before.
-ghost use Rattle.std.specs.Prelude.{◌≡◌, ◌≢◌, ℕ, ◌≤◌, true, List, [], Some, IfOk, IfErr, MatchResult};
+ghost use Rattle.std.specs.Prelude.{◌≡◌, ◌≢◌, ◌≤◌, true, List, Some, IfOk, IfErr, MatchResult};
 ghost use Rattle.labelled_disk.specs.Calls.{Rose};
 ghost use Rattle.labelled_disk.specs.Root.{root_page};
 ghost use Rattle.labelled_disk.specs.Sectors.{Sector};
 ghost use Rattle.labelled_disk.specs.declared.layout.RootFault.{RootFault};
-ghost use Rattle.filer_kernel.specs.Cached.{runs_of};
 ghost use Rattle.flat_machine.specs.Start.{start};
 ghost use Rattle.swapper_kernel.specs.Goes.{Went};
 ghost use Rattle.volume_root.specs.RootPage.{IsValidRoot, root_in};
@@ -12,7 +11,7 @@ ghost use Rattle.volume_root.specs.Sound.{Sound};
 ghost use Rattle.running_words.specs.Running.{Runs};
 ghost use Rattle.running_words.specs.Session.{IsOpen};
 ghost use Rattle.pilot_engine.specs.declared.fault.StartFault.TheVariants as start_fault;
-ghost use Rattle.pilot_engine.specs.Opening.{IsBare, IsDiskFault, IsOutside, IsSoAtStart, IsUnset, LeavesOpenAtStart};
+ghost use Rattle.pilot_engine.specs.Opening.{IsDiskFault, IsOutside, IsSoAtStart, IsUnset, LeavesOpenAtStart, IsBlank};
 ghost use Rattle.pilot_engine.specs.Rest.{CostsRest};
 ghost use Rattle.filer_kernel.specs.View.{disk_of, FitsLayout, view_of};
 ghost use Rattle.fault_core.specs.Core.{state};
@@ -36,11 +35,8 @@ fn filer_over<D: Disk, A: Allocator>(
     requires least { 24 ≤ frames }
     requires most { frames ≤ 4096 }
     requires valid { IsValidRoot (D.state disk).sectors root }
-    ensures same_layout { IfOk result (λ r. r.1 ≡ (view_of r.0).layout) }
+    ensures blank { IfOk result (λ r. IsBlank r.0 r.1) }
     ensures valid { IfOk result (λ r. IsValidRoot (view_of r.0).layout.sectors root) }
-    ensures size { IfOk result (λ r. (view_of r.0).disk.sectors ≡ (view_of r.0).layout.sectors) }
-    ensures bare { IfOk result (λ r. IsBare (view_of r.0).slots) }
-    ensures no_runs { IfOk result (λ r. (n : ℕ) → runs_of n r.0.runs ≡ []) }
     ensures over { IfOk result (λ r. (disk_of r.0) ≡ disk) }
     ensures back { IfErr result (λ e. e ≡ disk) }
 {

@@ -1,29 +1,21 @@
 //! Files that get another size.
-ghost use Rattle.std.specs.Prelude.{◌≡◌, ◌+◌, ◌-◌, ◌*◌, ◌<◌, ◌≤◌, ◌&&◌, true, nat_le, IfOk, IfErr, Err, None, OnOk, Some};
-ghost use Rattle.labelled_disk.specs.Calls.{Rose};
+ghost use Rattle.std.specs.Prelude.{◌≡◌, ◌+◌, ◌-◌, ◌*◌, ◌<◌, ◌≤◌, ◌&&◌, true, nat_le, IfErr, None, Some};
 ghost use Rattle.labelled_disk.specs.File.{File, file_at};
 ghost use Rattle.labelled_disk.specs.Label.{is_file_id};
 ghost use Rattle.labelled_disk.specs.declared.evidence.Halt.TheVariants as halt;
-ghost use Rattle.filer_kernel.specs.Evidence.{ShowsEvidence};
 ghost use Rattle.flat_machine.specs.declared.call.Call.TheVariants as call;
 ghost use Rattle.file_map.specs.FileMap.{most_records};
 ghost use Rattle.flat_machine.specs.Machine.{Machine};
-ghost use Rattle.pilot_engine.specs.Writing.{FileMay, Written};
 ghost use Rattle.pilot_engine.specs.Sparing.{SparesBut};
 ghost use Rattle.session_words.specs.Parts.{TablesMeaning};
-ghost use Rattle.running_words.specs.Session.{IsOpen, IsSession, Carries, Wrote};
-ghost use Rattle.running_words.specs.Stages.{Passes};
-ghost use Rattle.fault_core.specs.Reach.{BringsOwn};
-ghost use Rattle.fault_core.specs.Core.{kept, state};
+ghost use Rattle.fault_core.specs.Core.{state};
 ghost use Rattle.running_words.specs.Running.{Runs};
 ghost use Rattle.pilot_engine.specs.Seen.{CostsInside, IsSeenBy};
 ghost use Rattle.space_calls.specs.Halts.{OnFileHalts, OnNamedHalts};
 ghost use Rattle.pilot_engine.specs.Halting.{SizeHalts};
-ghost use Rattle.file_manager.specs.Reasons.{KeepsOn, InitialState};
 ghost use Rattle.file_manager.specs.Synced.{LabelsAfterSync};
-ghost use Rattle.filer_kernel.specs.View.{FitsLayout};
-ghost use Rattle.pilot_engine.specs.Showing.{KeepsWindows};
-ghost use Rattle.pilot_engine.specs.Calls.{Accounts, Answers, Stays};
+ghost use Rattle.pilot_engine.specs.Calls.{Answers};
+ghost use Rattle.pilot_engine.specs.Outcomes.{AccountsOn, AnswersIn, FailsBy, IsIn, IsSetUp, Remains, RemainsInside, WritesFile};
 
 use crate::Session;
 use crate::sight::Sight;
@@ -61,54 +53,21 @@ impl<D: Disk, A: Allocator> Session<D, A> {
     // Gives a file that may be named so many pages: others of zeros after those that it has, or the first of them alone. It is
     // not cut where the window of a space shows it.
     fn resize(&mut self, id: FileId, pages: u32, seen: Option<u32>) -> Result<Reply, Halt>
-        requires size { FitsLayout (state self.old.core) }
-        requires opened { IsOpen (state self.old.core).layout self.old.volume }
-        ensures carried { (spaces_of : TablesMeaning) (m : Machine)
-            → IsSession spaces_of (state self.old.core).disk (state self.old.core).slots (state self.old.core).layout
-            (state self.old.core).runs self.old.volume m
-            → IsSeenBy m id seen
-            → IfOk result
-            (λ reply.
-            Carries spaces_of m (call.SetSize id pages) reply (state self.new.core).disk (state self.new.core).slots
-            (state self.new.core).layout (state self.new.core).runs self.new.volume) }
-        ensures sound { (spaces_of : TablesMeaning) (m : Machine)
-            → IsSession spaces_of (state self.old.core).disk (state self.old.core).slots (state self.old.core).layout
-            (state self.old.core).runs self.old.volume m
+        requires set_up { IsSetUp self.old }
+        ensures answers { (spaces_of : TablesMeaning) (m : Machine) → IsIn spaces_of self.old m → IsSeenBy m id seen
+            → AnswersIn spaces_of m (call.SetSize id pages) self.old self.new result }
+        ensures sound { (spaces_of : TablesMeaning) (m : Machine) → IsIn spaces_of self.old m
             → IsSeenBy m id seen → IfErr result (λ e. e ≡ halt.Disk) }
-        ensures passes { (spaces_of : TablesMeaning) (m : Machine)
-            → IsSession spaces_of (state self.old.core).disk (state self.old.core).slots (state self.old.core).layout
-            (state self.old.core).runs self.old.volume m
-            → IsSeenBy m id seen
-            → Passes m (call.SetSize id pages) (state self.old.core).disk (state self.new.core).disk }
-        ensures came { (spaces_of : TablesMeaning) (m : Machine)
-            → IsSession spaces_of (state self.old.core).disk (state self.old.core).slots (state self.old.core).layout
-            (state self.old.core).runs self.old.volume m
-            → IsSeenBy m id seen
-            → OnOk result (BringsOwn (state self.old.core).slots (state self.new.core).slots) }
-        ensures counted { result ≡ Err halt.Disk
-            → Rose (state self.old.core).disk.faults (state self.new.core).disk.faults }
-        ensures cause { IfErr result (OnFileHalts id (SizeHalts id pages) (state self.old.core) (state self.new.core)) }
-        ensures accounts { (o : InitialState) → KeepsOn o self.old.core.filer → Accounts o o self.old self.new result }
-        ensures windows { KeepsWindows self.old self.new result }
-        ensures evidence_seen { IfErr result (ShowsEvidence (state self.new.core).disk) }
-        ensures wrote { Wrote (state self.old.core).disk (state self.old.core).slots (state self.new.core).disk
-            (state self.new.core).slots }
-        ensures stays { Stays self.old self.new }
-        ensures running { self.new.running ≡ self.old.running }
-        ensures kept { kept self.new.core ≡ kept self.old.core }
-        ensures intervals { self.new.core.intervals ≡ self.old.core.intervals }
+        ensures fails { FailsBy (OnFileHalts id (SizeHalts id pages)) self.old self.new result }
+        ensures accounts { AccountsOn self.old self.new result }
+        ensures writes { WritesFile (call.SetSize id pages) (SparesBut id) self.old self.new }
+        ensures remains { RemainsInside self.old self.new }
         ensures cost { (state self.new.core).disk.transfers ≤ (state self.old.core).disk.transfers
             + (158 + 4294967295 * (8 * (state self.old.core).layout.vam + 100) + 102 * most_records
             (state self.old.core).layout.sectors) }
-        ensures bounded { (spaces_of : TablesMeaning) (m : Machine)
-            → IsSession spaces_of (state self.old.core).disk (state self.old.core).slots (state self.old.core).layout
-            (state self.old.core).runs self.old.volume m
+        ensures bounded { (spaces_of : TablesMeaning) (m : Machine) → IsIn spaces_of self.old m
             → CostsInside (state self.old.core).disk (state self.new.core).disk }
-        ensures own { Written (FileMay (call.SetSize id pages)) (state self.old.core).disk (state self.new.core).disk }
-        ensures spares { SparesBut id (state self.old.core).disk (state self.new.core).disk }
-        ensures after_sync { (spaces_of : TablesMeaning) (m : Machine) (f : File)
-            → IsSession spaces_of (state self.old.core).disk (state self.old.core).slots (state self.old.core).layout
-            (state self.old.core).runs self.old.volume m
+        ensures after_sync { (spaces_of : TablesMeaning) (m : Machine) (f : File) → IsIn spaces_of self.old m
             → file_at m.files id ≡ Some f → f.permanent ≡ true
             → LabelsAfterSync (state self.old.core).disk (state self.new.core).disk }
     {
@@ -138,23 +97,14 @@ impl<D: Disk, A: Allocator> Session<D, A> {
 
     // Gives a file so many pages, unless that cuts what a window shows.
     pub(crate) fn set_size(&mut self, id: FileId, pages: u32) -> Result<Reply, Halt>
-        requires size { FitsLayout (state self.old.core) }
-        requires opened { IsOpen (state self.old.core).layout self.old.volume }
+        requires set_up { IsSetUp self.old }
         ensures answers { (m : Machine) → Runs self.old.core self.old.volume m
             → Answers m (call.SetSize id pages) self.old self.new result }
-        ensures counted { result ≡ Err halt.Disk
-            → Rose (state self.old.core).disk.faults (state self.new.core).disk.faults }
-        ensures cause { IfErr result
-            (OnNamedHalts id self.old.core.intervals (SizeHalts id pages) (state self.old.core) (state self.new.core)) }
-        ensures accounts { (o : InitialState) → KeepsOn o self.old.core.filer → Accounts o o self.old self.new result }
-        ensures windows { KeepsWindows self.old self.new result }
-        ensures evidence_seen { IfErr result (ShowsEvidence (state self.new.core).disk) }
-        ensures wrote { Wrote (state self.old.core).disk (state self.old.core).slots (state self.new.core).disk
-            (state self.new.core).slots }
-        ensures stays { Stays self.old self.new }
-        ensures running { self.new.running ≡ self.old.running }
-        ensures own { Written (FileMay (call.SetSize id pages)) (state self.old.core).disk (state self.new.core).disk }
-        ensures spares { SparesBut id (state self.old.core).disk (state self.new.core).disk }
+        ensures fails { FailsBy (OnNamedHalts id self.old.core.intervals (SizeHalts id pages)) self.old self.new
+            result }
+        ensures accounts { AccountsOn self.old self.new result }
+        ensures writes { WritesFile (call.SetSize id pages) (SparesBut id) self.old self.new }
+        ensures remains { Remains self.old self.new }
         ensures after_sync { (m : Machine) (f : File) → Runs self.old.core self.old.volume m
             → file_at m.files id ≡ Some f → f.permanent ≡ true
             → LabelsAfterSync (state self.old.core).disk (state self.new.core).disk }

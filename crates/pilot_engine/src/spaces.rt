@@ -1,26 +1,13 @@
 //! One call of a client on spaces.
-ghost use Rattle.std.specs.Prelude.{◌≡◌, ◌+◌, ◌≤◌, true, IfErr, IsOk, OnOk, None, List};
-ghost use Rattle.labelled_disk.specs.declared.evidence.Halt.TheVariants as halt;
+ghost use Rattle.std.specs.Prelude.{◌≡◌, ◌+◌, ◌≤◌, true};
 ghost use Rattle.flat_machine.specs.Form.{IsInForm};
 ghost use Rattle.flat_machine.specs.Machine.{Machine};
 ghost use Rattle.flat_machine.specs.References.{is_reference};
-ghost use Rattle.flat_machine.specs.Refusal.{refusal};
 ghost use Rattle.running_words.specs.Running.{Runs};
-ghost use Rattle.running_words.specs.Session.{IsOpen, WroteIn};
-ghost use Rattle.running_words.specs.Stages.{may_dirty};
-ghost use Rattle.fault_core.specs.Core.{kept, state};
-ghost use Rattle.pilot_engine.specs.Advised.{IsAdvised};
-ghost use Rattle.pilot_engine.specs.Labels.{WritesPagesAlone, keeps_labels};
-ghost use Rattle.pilot_engine.specs.Stepping.{IsResident, StepHalts, is_on_spaces, waits, missing_page};
-ghost use Rattle.file_manager.specs.Creating.{next_id};
-ghost use Rattle.file_manager.specs.Reasons.{KeepsOn, InitialState, IsNotOlder, giving};
-ghost use Rattle.fault_core.specs.Lack.{MissesPage, Sees};
-ghost use Rattle.flat_machine.specs.declared.space.Space.{Space};
-ghost use Rattle.filer_kernel.specs.View.{FitsLayout};
-ghost use Rattle.pilot_engine.specs.Calls.{Accounts, Answers, SparesOthers, Stays};
-ghost use Rattle.pilot_engine.specs.Writing.{WritesAllowed};
-ghost use Rattle.pilot_engine.specs.Showing.{DirtiesShown, ShowsMapped};
-ghost use Rattle.filer_kernel.specs.Fails.{Fails};
+ghost use Rattle.fault_core.specs.Core.{state};
+ghost use Rattle.pilot_engine.specs.Stepping.{is_on_spaces};
+ghost use Rattle.file_manager.specs.Reasons.{KeepsOn, InitialState, IsNotOlder};
+ghost use Rattle.pilot_engine.specs.Outcomes.{AccountsFor, AnswersAll, HaltsAs, IsSetUp, Remains, WritesAs};
 
 use crate::Session;
 use flat_machine::{Call, Reply};
@@ -34,40 +21,18 @@ use std::alloc::Allocator;
 impl<D: Disk, A: Allocator> Session<D, A> {
     // Carries out a call on spaces.
     pub(crate) fn answer_on_spaces(&mut self, call: &Call) -> Result<Reply, Halt>
-        requires size { FitsLayout (state self.old.core) }
-        requires opened { IsOpen (state self.old.core).layout self.old.volume }
+        requires set_up { IsSetUp self.old }
         requires on_spaces { is_on_spaces call.now ≡ true }
         requires in_form { IsInForm call.now }
-        ensures answers { (m : Machine) → Runs self.old.core self.old.volume m
-            → Answers m call.now self.old self.new result }
-        ensures forced { (m : Machine) → waits call.now ≡ true → refusal m call.now ≡ None
-            → Runs self.old.core self.old.volume m → OnOk result ((state self.new.core).disk.synced ≡ true) }
-        ensures advised { (m : Machine) → refusal m call.now ≡ None → Runs self.old.core self.old.volume m
-            → OnOk result (IsAdvised m.spaces call.now (kept self.new.core) (state self.new.core).slots) }
-        ensures fails { IfErr result
-            (Fails
-            (StepHalts (next_id self.old.volume.root) call.now self.old.core.intervals (state self.old.core)
-            (state self.new.core))
-            (state self.old.core) (state self.new.core)) }
-        ensures missing { (ss : List Space) → Sees (state self.old.core) (kept self.old.core) self.old.core.intervals ss
-            → IfErr result (MissesPage (missing_page call.now ss)) }
+        ensures machine { (m : Machine) → Runs self.old.core self.old.volume m
+            → AnswersAll m call.now self.old self.new result }
+        ensures halts { HaltsAs call.now self.old self.new result }
         ensures accounts { (o : InitialState) → KeepsOn o self.old.core.filer → IsNotOlder o self.old.volume.root
-            → Accounts o (giving o (next_id self.new.volume.root)) self.old self.new result }
-        ensures windows { ShowsMapped call.now self.old self.new result }
-        ensures wrote { WroteIn (may_dirty call.now) (state self.old.core).disk (state self.old.core).slots
-            (state self.new.core).disk (state self.new.core).slots }
-        ensures shown { DirtiesShown call.now self.old self.new }
-        ensures stays { Stays self.old self.new }
-        ensures running { self.new.running ≡ self.old.running }
+            → AccountsFor call.now o self.old self.new result }
+        ensures writes { WritesAs call.now self.old self.new result }
+        ensures remains { Remains self.old self.new }
         ensures reference { is_reference call.now ≡ true
             → (state self.new.core).disk.transfers ≤ (state self.old.core).disk.transfers + 1680 }
-        ensures own { WritesAllowed call.now self.old self.new result }
-        ensures spares { SparesOthers call.now self.old self.new }
-        ensures unlabelled { keeps_labels call.now ≡ true
-            → WritesPagesAlone (state self.old.core).disk (state self.new.core).disk }
-        ensures idle { (m : Machine) → Runs self.old.core self.old.volume m
-            → IsResident call.now (kept self.old.core) (state self.old.core).slots
-            → IsOk result × ((state self.new.core).disk ≡ (state self.old.core).disk) }
     {
         match call {
             Call::MakeSpace {

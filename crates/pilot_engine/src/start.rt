@@ -1,5 +1,5 @@
 //! A session is started on a volume that was closed.
-ghost use Rattle.std.specs.Prelude.{◌≡◌, ◌⊎◌, ℕ, ◌+◌, ◌-◌, ◌*◌, ◌^◌, ◌<◌, ◌≤◌, min, true, List, [], ◌∷◌, ◌++◌, length, Some, Err, IfOk, IfErr, OnErr, OnOk, MatchResult};
+ghost use Rattle.std.specs.Prelude.{◌≡◌, ◌⊎◌, ℕ, ◌+◌, ◌-◌, ◌*◌, ◌^◌, ◌<◌, ◌≤◌, min, true, List, [], ◌∷◌, ◌++◌, length, Some, IfOk, IfErr, OnOk, MatchResult};
 ghost use Rattle.labelled_disk.specs.declared.evidence.Halt.TheVariants as halt;
 ghost use Rattle.labelled_disk.specs.declared.layout.RootFault.TheVariants as fault;
 ghost use Rattle.labelled_disk.specs.Calls.{OnlyReads, ReadsAtMost, Rose};
@@ -8,9 +8,7 @@ ghost use Rattle.labelled_disk.specs.Layout.{IsCount, layout_of};
 ghost use Rattle.file_map.specs.FileMap.{Triples, most_records};
 ghost use Rattle.labelled_disk.specs.Root.{LabelsRight, root_page};
 ghost use Rattle.labelled_disk.specs.Sectors.{Sector};
-ghost use Rattle.filer_kernel.specs.Evidence.{ShowsEvidence};
 ghost use Rattle.filer_kernel.specs.View.{FitsLayout, MakesOnly, TablesAre, view_of};
-ghost use Rattle.filer_kernel.specs.Cached.{runs_of};
 ghost use Rattle.flat_machine.specs.Start.{start};
 ghost use Rattle.swapper_kernel.specs.Goes.{Goes, IsDirty, no_page};
 ghost use Rattle.label_calls.specs.Labels.{MayHaveWritten};
@@ -22,15 +20,17 @@ ghost use Rattle.volume_root.specs.Sound.{Sound};
 ghost use Rattle.running_words.specs.Bound.{CostsOther};
 ghost use Rattle.pilot_engine.specs.declared.fault.StartFault.TheVariants as start_fault;
 ghost use Rattle.pilot_engine.specs.Writing.{BeginMay, Written};
-ghost use Rattle.pilot_engine.specs.Opening.{root_alone, in_use, IsBare, StartsSome, WroteFirst, SyncsFirst, KeepsFiles, CostsStart, IsDiskFault, IsOutside, IsEarly, IsRightRefusal, IsUnset, LeavesOpen, IsSoAtStart, LeavesOpenAtStart};
+ghost use Rattle.pilot_engine.specs.Opening.{root_alone, in_use, IsBare, StartsSome, WroteFirst, SyncsFirst, KeepsFiles, CostsStart, IsDiskFault, IsOutside, IsEarly, IsRightRefusal, IsUnset, LeavesOpen, IsSoAtStart, LeavesOpenAtStart, IsBlank, KeepsNumbers, Refuses};
 ghost use Rattle.running_words.specs.Running.{IsRunning, Runs};
 ghost use Rattle.running_words.specs.Session.{IsOpen, IsSession};
 ghost use Rattle.pilot_engine.specs.Beginning.{HasStartCause, StartHalts, TablesHalts};
 ghost use Rattle.file_manager.specs.Reasons.{Keeps, KeepsOn, InitialState, ShowsReason, initial_state};
-ghost use Rattle.pilot_engine.specs.Reasons.{FromStart, IsBegun, SeesRoot, ShowsReasonAtStart, NeverBlamesFiles, NeverBlamesFilesAtStart};
+ghost use Rattle.pilot_engine.specs.Reasons.{FromStart, IsBegun, SeesRoot, ShowsReasonAtStart, NeverBlamesFiles, NeverBlamesFilesAtStart, AccountsBegun};
 ghost use Rattle.space_calls.specs.Sees.{SeesFiles};
 ghost use Rattle.file_manager.specs.Creating.{IsMonotone, next_id};
 ghost use Rattle.fault_core.specs.Core.{state};
+ghost use Rattle.pilot_engine.specs.Outcomes.{FailsSo};
+ghost use Rattle.file_manager.specs.Stays.{FramesStay};
 
 use crate::frames::look_at_frames;
 use crate::{Session, StartFault};
@@ -76,14 +76,12 @@ fn write_tables<D: Disk, A: Allocator>(filer: &mut Filer<D, A>) -> Result<(), Ha
         (view_of filer.old).runs volume (start d)
         → IfErr result (λ e. e ≡ halt.Disk) }
     ensures makes { MakesOnly volume_page [] (view_of filer.old) (view_of filer.new) }
-    ensures counted { result ≡ Err halt.Disk → Rose (view_of filer.old).disk.faults (view_of filer.new).disk.faults }
-    ensures cause { IfErr result (TablesHalts (view_of filer.old) (view_of filer.new)) }
+    ensures fails { FailsSo TablesHalts (view_of filer.old) (view_of filer.new) result }
     ensures keeps_to { (o : InitialState) → KeepsOn o filer.old → OnOk result (KeepsOn o filer.new) }
     ensures reasons { (o : InitialState) → KeepsOn o filer.old
         → IfErr result (ShowsReason o (view_of filer.old).layout (view_of filer.new).disk) }
     ensures sees { (b : List ℕ) → TablesAre (view_of filer.old) b
         → MatchResult result (λ _. SeesRoot (view_of filer.new)) NeverBlamesFiles }
-    ensures evidence_seen { IfErr result (ShowsEvidence (view_of filer.new).disk) }
     ensures layout { (view_of filer.new).layout ≡ (view_of filer.old).layout }
     ensures cost { (view_of filer.new).disk.transfers ≤ (view_of filer.old).disk.transfers + 14392 }
 {
@@ -102,19 +100,18 @@ fn put_in_use<D: Disk, A: Allocator>(filer: &mut Filer<D, A>, root: Root) -> Res
     requires serial { root.serial < 2 ^ 32 }
     requires counter { root.counter < 2 ^ 32 }
     requires bare { IsBare (view_of filer.old).slots }
-    ensures made { OnOk result
-        (Goes (λ m n. n ≡ written (root_write root) m) no_page (root_write root ∷ []) (view_of filer.old).disk
-        (view_of filer.old).slots (view_of filer.new).disk (view_of filer.old).slots) }
-    ensures stopped { OnErr result
-        (MayHaveWritten (root_write root) (view_of filer.old).disk (view_of filer.old).slots (view_of filer.new).disk) }
+    ensures writes { MatchResult result
+        (λ _.
+        Goes (λ m n. n ≡ written (root_write root) m) no_page (root_write root ∷ []) (view_of filer.old).disk
+        (view_of filer.old).slots (view_of filer.new).disk (view_of filer.old).slots)
+        (λ _.
+        MayHaveWritten (root_write root) (view_of filer.old).disk (view_of filer.old).slots (view_of filer.new).disk) }
     ensures synced { OnOk result (SyncsFirst (view_of filer.old).disk (view_of filer.new).disk) }
-    ensures fault { IfErr result (λ e. e ≡ halt.Disk) }
+    ensures fault { IfErr result
+        (λ e. (e ≡ halt.Disk) × Rose (view_of filer.old).disk.faults (view_of filer.new).disk.faults) }
     ensures keeps_to { (o : InitialState) (named : Triples) → Keeps o filer.old named → next_id root ≤ o.next
         → OnOk result (Keeps o filer.new named) }
-    ensures counted { OnErr result (Rose (view_of filer.old).disk.faults (view_of filer.new).disk.faults) }
-    ensures frames { (view_of filer.new).slots ≡ (view_of filer.old).slots }
-    ensures layout { (view_of filer.new).layout ≡ (view_of filer.old).layout }
-    ensures runs { (view_of filer.new).runs ≡ (view_of filer.old).runs }
+    ensures stays { FramesStay (view_of filer.old) (view_of filer.new) }
     ensures cost { (view_of filer.new).disk.transfers ≤ (view_of filer.old).disk.transfers + 1 }
 {
     match write_over(filer, root) {
@@ -135,38 +132,22 @@ pub(crate) fn begin<D: Disk, A: Allocator>(
     layout: Layout,
     root: Root,
 ) -> Result<Volume, Halt>
-    requires same_layout { layout ≡ (view_of filer.old).layout }
-    requires size { FitsLayout (view_of filer.old) }
+    requires blank { IsBlank filer.old layout }
     requires valid { IsValidRoot (view_of filer.old).layout.sectors root }
-    requires bare { IsBare (view_of filer.old).slots }
-    requires no_runs { (n : ℕ) → runs_of n (view_of filer.old).runs ≡ [] }
     ensures begun { (d : List Sector) → (view_of filer.old).disk.contents ≡ Some d → Sound d
-        → root ≡ root_in (root_page d) → IfOk result (λ volume. IsRunning (view_of filer.new) [] 1 volume (start d)) }
-    ensures sound { (d : List Sector) → (view_of filer.old).disk.contents ≡ Some d → Sound d
-        → root ≡ root_in (root_page d) → IfErr result (λ e. e ≡ halt.Disk) }
+        → root ≡ root_in (root_page d)
+        → MatchResult result (λ volume. IsRunning (view_of filer.new) [] 1 volume (start d)) (λ e. e ≡ halt.Disk) }
     ensures opened { IfOk result (IsOpen (view_of filer.new).layout) }
     ensures starts { StartsSome root (view_of filer.old).disk (view_of filer.old).slots (view_of filer.new).disk
         (view_of filer.new).slots }
     ensures synced { IfOk result (λ volume. SyncsFirst (view_of filer.old).disk (view_of filer.new).disk) }
-    ensures counted { result ≡ Err halt.Disk → Rose (view_of filer.old).disk.faults (view_of filer.new).disk.faults }
-    ensures cause { IfErr result (StartHalts root (view_of filer.old) (view_of filer.new)) }
-    ensures keeps_to { (d : List Sector) (named : Triples) (ws : List DiskWrite)
+    ensures fails { FailsSo (StartHalts root) (view_of filer.old) (view_of filer.new) result }
+    ensures accounts { (d : List Sector) (named : Triples) (ws : List DiskWrite)
         → IsBegun d named ws (view_of filer.old).disk
-        → IfOk result (λ volume. KeepsOn (initial_state d named (ws ++ (root_write (in_use root) ∷ []))) filer.new) }
-    ensures reasons { (d : List Sector) (named : Triples) (ws : List DiskWrite)
-        → IsBegun d named ws (view_of filer.old).disk
-        → IfErr result
-        (ShowsReason (initial_state d named (ws ++ (root_write (in_use root) ∷ []))) (view_of filer.old).layout
-        (view_of filer.new).disk) }
-    ensures sees { (d : List Sector) (named : Triples) (ws : List DiskWrite)
-        → IsBegun d named ws (view_of filer.old).disk
-        → MatchResult result (λ volume. SeesRoot (view_of filer.new)) NeverBlamesFiles }
-    ensures monotone { IfOk result (λ volume. IsMonotone root volume.root) }
-    ensures evidence_seen { IfErr result (ShowsEvidence (view_of filer.new).disk) }
+        → AccountsBegun (initial_state d named (ws ++ (root_write (in_use root) ∷ []))) filer.old filer.new result }
     ensures left_open { MatchResult result (λ volume. IsUnset (view_of filer.new).disk)
         (LeavesOpen (view_of filer.new).disk) }
-    ensures serial { root.serial < 2 ^ 32 }
-    ensures counter { root.counter < 2 ^ 32 }
+    ensures numbers { KeepsNumbers root result }
     ensures layout { (view_of filer.new).layout ≡ (view_of filer.old).layout }
     ensures cost { (view_of filer.new).disk.transfers ≤ (view_of filer.old).disk.transfers
         + (14393 + 2 * (view_of filer.old).layout.vam + 2 * (1 + 51 * most_records (view_of filer.old).layout.sectors)
@@ -204,23 +185,12 @@ fn frames_over<D: Disk, A: Allocator>(
 ) -> Result<(Filer<D, A>, Layout, Root), (StartFault, D)>
     requires least { 24 ≤ frames }
     requires most { frames ≤ 4096 }
-    ensures same_layout { IfOk result (λ r. r.1 ≡ (view_of r.0).layout) }
+    ensures blank { IfOk result (λ r. IsBlank r.0 r.1) }
     ensures valid { IfOk result (λ r. IsValidRoot (view_of r.0).layout.sectors r.2) }
-    ensures size { IfOk result (λ r. (view_of r.0).disk.sectors ≡ (view_of r.0).layout.sectors) }
-    ensures bare { IfOk result (λ r. IsBare (view_of r.0).slots) }
-    ensures no_runs { IfOk result (λ r. (n : ℕ) → runs_of n r.0.runs ≡ []) }
     ensures frames { IfOk result (λ r. length (view_of r.0).slots ≡ frames) }
     ensures read { (d : List Sector) → (D.state disk).contents ≡ Some d
         → IfOk result (λ r. r.2 ≡ root_in (root_page d)) }
-    ensures count { ¬ IsCount (D.state disk).sectors
-        → MatchResult result (λ r. ⊥) (λ e. e.0 ≡ start_fault.Root (fault.BadCount (D.state disk).sectors)) }
-    ensures bad_count { (n : ℕ)
-        → IfErr result
-        (λ e.
-        e.0 ≡ start_fault.Root (fault.BadCount n) → ¬ IsCount (D.state disk).sectors × (n ≡ (D.state disk).sectors)) }
-    ensures refused { (d : List Sector) (why : RootFault) → (D.state disk).contents ≡ Some d → IsRefused d why
-        → MatchResult result (λ r. ⊥) (λ e. (e.0 ≡ start_fault.Root why) ⊎ (e.0 ≡ start_fault.Root fault.Disk)) }
-    ensures judged { (d : List Sector) → (D.state disk).contents ≡ Some d → IfErr result (λ e. IsRightRefusal d e.0) }
+    ensures refuses { Refuses (D.state disk) result }
     ensures early { IfErr result (λ e. IsEarly e.0) }
     ensures counted { IfErr result (λ e. IsDiskFault e.0 → Rose (D.state disk).faults (D.state e.1).faults) }
     ensures reads { MatchResult result (λ r. ReadsAtMost 1 (D.state disk) (view_of r.0).disk)

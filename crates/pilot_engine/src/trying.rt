@@ -13,6 +13,7 @@ ghost use Rattle.running_words.specs.Running.{Runs};
 ghost use Rattle.running_words.specs.Session.{IsOpen};
 ghost use Rattle.pilot_engine.specs.Calls.{Accounts};
 ghost use Rattle.pilot_engine.specs.Trying.{Tries, TriesIn, WritesLabels, replied_as, tried_as};
+ghost use Rattle.pilot_engine.specs.Outcomes.{IsSetUp};
 
 use crate::Session;
 use fault_core::{Access, Attempt};
@@ -90,8 +91,7 @@ impl<D: Disk, A: Allocator> Session<D, A> {
     }
 
     fn try_answer(&mut self, call: &Call) -> Result<Tried, Halt>
-        requires size { FitsLayout (state self.old.core) }
-        requires opened { IsOpen (state self.old.core).layout self.old.volume }
+        requires set_up { IsSetUp self.old }
         requires more { ends_trace call.now ≡ false }
         requires in_form { IsInForm call.now }
         ensures machine { (m : Machine) → Runs self.old.core self.old.volume m
@@ -112,8 +112,7 @@ impl<D: Disk, A: Allocator> Session<D, A> {
 
     // Loads where all pages of the reference are resident.
     fn try_load(&mut self, address: u32, count: u8) -> Result<Tried, Halt>
-        requires size { FitsLayout (state self.old.core) }
-        requires opened { IsOpen (state self.old.core).layout self.old.volume }
+        requires set_up { IsSetUp self.old }
         requires some { 1 ≤ count }
         requires few { count ≤ 64 }
         ensures machine { (m : Machine) → Runs self.old.core self.old.volume m
@@ -134,8 +133,7 @@ impl<D: Disk, A: Allocator> Session<D, A> {
 
     // Stores where all pages of the reference are resident.
     fn try_store(&mut self, address: u32, bytes: &[u8]) -> Result<Tried, Halt>
-        requires size { FitsLayout (state self.old.core) }
-        requires opened { IsOpen (state self.old.core).layout self.old.volume }
+        requires set_up { IsSetUp self.old }
         requires some { 1 ≤ length bytes.now }
         requires few { length bytes.now ≤ 64 }
         ensures machine { (m : Machine) → Runs self.old.core self.old.volume m
@@ -154,8 +152,7 @@ impl<D: Disk, A: Allocator> Session<D, A> {
 
     // Looks up a space that is to be brought in.
     fn look_up(&mut self, space: u32) -> Result<Tried, Halt>
-        requires size { FitsLayout (state self.old.core) }
-        requires opened { IsOpen (state self.old.core).layout self.old.volume }
+        requires set_up { IsSetUp self.old }
         ensures machine { (m : Machine) → Runs self.old.core self.old.volume m
             → TriesIn m (calls.Activate space) self.old result self.new }
         ensures accounts { (o : InitialState) → KeepsOn o self.old.core.filer → IsNotOlder o self.old.volume.root

@@ -1,6 +1,11 @@
-use Rattle.std.proofs.Common.{◌∙◌}
+use Rattle.std.proofs.Common.{◌∙◌, rules}
 use Rattle.pilot_engine.proofs.StartFaults.{bare_slots}
 use Rattle.pilot_engine.proofs.rooted.filer_over.Goals as goal
 
-pub returns-in-Ok-over-clause-bare : goal.returns-in-Ok-over-clause-bare
-returns-in-Ok-over-clause-bare g c = bare_slots c.args.frames _ ((λ i. (c.over-in-Ok-over.ensures.swapper i).pool) ∙ c.in-Ok-over.ensures.empty)
+pub returns-in-Ok-over-clause-blank : goal.returns-in-Ok-over-clause-blank
+returns-in-Ok-over-clause-blank g c = record {
+  same_layout = (search rules);
+  size = (search rules);
+  bare = bare_slots c.args.frames _ ((λ i. (c.over-in-Ok-over.ensures.swapper i).pool) ∙ c.in-Ok-over.ensures.empty);
+  no_runs = (search rules);
+}

@@ -1,17 +1,26 @@
-use Rattle.std.proofs.Common.{◌∙◌}
-use Rattle.pilot_engine.proofs.StartFaults.{bare_count, bare_slots, refused_so, right_so, root_there}
+use Rattle.std.proofs.Common.{◌∙◌, rules}
+use Rattle.pilot_engine.proofs.StartFaults.{bare_count, bare_slots, refused_so, right_so, root_there, count_so, bad_count_so}
 use Rattle.pilot_engine.proofs.start.frames_over.Goals as goal
 
-pub returns-in-Err-clause-refused : goal.returns-in-Err-clause-refused
-returns-in-Err-clause-refused g c = λ d why revealed is.
-    refused_so d (g.D.Disk.state c.args.disk).sectors (g.met.D.Disk.whole c.args.disk d revealed) c.read_root.result c.read_root.ensures.count (λ count. c.read_root.ensures.judged count d revealed) c.in-Err.why c.in-Err.is why is
+pub returns-in-Err-clause-refuses : goal.returns-in-Err-clause-refuses
+returns-in-Err-clause-refuses g c =
+    let sectors = (g.D.Disk.state c.args.disk).sectors in
+    record {
+      count = count_so sectors c.read_root.result c.in-Err.why c.in-Err.is c.read_root.ensures.count;
+      bad_count = bad_count_so sectors c.read_root.result c.in-Err.why c.in-Err.is c.read_root.ensures.bad_count;
+      refused = λ d why revealed is.
+          refused_so d (g.D.Disk.state c.args.disk).sectors (g.met.D.Disk.whole c.args.disk d revealed) c.read_root.result c.read_root.ensures.count (λ count. c.read_root.ensures.judged count d revealed) c.in-Err.why c.in-Err.is why is;
+      judged = λ d revealed.
+          right_so d (g.D.Disk.state c.args.disk).sectors (g.met.D.Disk.whole c.args.disk d revealed) c.read_root.result c.read_root.ensures.count (λ count. c.read_root.ensures.judged count d revealed) c.in-Err.why c.in-Err.is;
+    }
 
-pub returns-in-Err-clause-judged : goal.returns-in-Err-clause-judged
-returns-in-Err-clause-judged g c = λ d revealed.
-    right_so d (g.D.Disk.state c.args.disk).sectors (g.met.D.Disk.whole c.args.disk d revealed) c.read_root.result c.read_root.ensures.count (λ count. c.read_root.ensures.judged count d revealed) c.in-Err.why c.in-Err.is
-
-pub returns-in-Ok-over-clause-bare : goal.returns-in-Ok-over-clause-bare
-returns-in-Ok-over-clause-bare g c = bare_slots c.args.frames _ ((λ i. (c.over-in-Ok-over.ensures.swapper i).pool) ∙ c.in-Ok-over.ensures.empty)
+pub returns-in-Ok-over-clause-blank : goal.returns-in-Ok-over-clause-blank
+returns-in-Ok-over-clause-blank g c = record {
+  same_layout = (search rules);
+  size = (search rules);
+  bare = bare_slots c.args.frames _ ((λ i. (c.over-in-Ok-over.ensures.swapper i).pool) ∙ c.in-Ok-over.ensures.empty);
+  no_runs = (search rules);
+}
 
 pub returns-in-Ok-over-clause-read : goal.returns-in-Ok-over-clause-read
 returns-in-Ok-over-clause-read g c = λ d revealed.

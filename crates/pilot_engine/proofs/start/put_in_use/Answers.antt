@@ -1,8 +1,7 @@
-use Rattle.std.proofs.Common.{◌≡◌, ℕ, ◌+◌, List, [], ◌∷◌, ◌++◌, length, true, Some, option_map, inr, rules, ◌∙◌, refl, ap, subst, sym, length-append}
+use Rattle.std.proofs.Common.{◌≡◌, ℕ, List, [], ◌∷◌, ◌++◌, length, true, Some, option_map, inr, rules, ◌∙◌, ap, subst, length-append}
 use Rattle.labelled_disk.specs.declared.disk.DiskWrite.{DiskWrite}
 use Rattle.labelled_disk.specs.Calls.{Syncs}
 use Rattle.labelled_disk.specs.CrashState.{written}
-use Rattle.labelled_disk.specs.Sectors.{Sector}
 use Rattle.labelled_disk.specs.WriteRuns.{Appended}
 use Rattle.volume_root.specs.RootPage.{root_write}
 use Rattle.swapper_kernel.specs.Goes.{no_page}
@@ -14,16 +13,16 @@ use Rattle.pilot_engine.proofs.StartWrites.{alone}
 use Rattle.pilot_engine.proofs.start.put_in_use.Goals as goal
 use Rattle.filer_kernel.specs.View.{view_of}
 
-pub returns-in-Ok-sync-clause-made : goal.returns-in-Ok-sync-clause-made
-returns-in-Ok-sync-clause-made g c =
+pub returns-in-Ok-sync-clause-writes : goal.returns-in-Ok-sync-clause-writes
+returns-in-Ok-sync-clause-writes g c =
     let filer = c.args.filer.now in
     let syncs : Syncs (view_of c.write_over.new.filer).disk c.sync.result (g.D.Disk.state c.sync.new.self) = search rules in
     let write = root_write c.args.root in
     goes_swapping (λ m n. n ≡ written write m) no_page (write ∷ []) (swaps_itself (view_of filer).disk (view_of filer).slots) c.in-Ok.ensures.writes
     (synced_swaps (view_of c.write_over.new.filer).disk (g.D.Disk.state c.sync.new.self) c.sync.result (view_of filer).slots syncs)
 
-pub returns-in-Err-sync-clause-stopped : goal.returns-in-Err-sync-clause-stopped
-returns-in-Err-sync-clause-stopped g c =
+pub returns-in-Err-sync-clause-writes : goal.returns-in-Err-sync-clause-writes
+returns-in-Err-sync-clause-writes g c =
     let filer = c.args.filer.now in
     let syncs : Syncs (view_of c.write_over.new.filer).disk c.sync.result (g.D.Disk.state c.sync.new.self) = search rules in
     let write = root_write c.args.root in

@@ -10,6 +10,8 @@ use Rattle.fault_core.proofs.EvidenceLemmas.{shows_evidence}
 use Rattle.running_words.specs.MovingLaws.{keeps_moved, reach_reasons}
 use Rattle.running_words.specs.BlamelessLaws.{never_blames_form}
 use Rattle.pilot_engine.proofs.InitialStateLemmas.{moves_of_tables}
+use Rattle.std.proofs.Common.{subst}
+use Rattle.pilot_engine.specs.Beginning.{TablesHalts}
 use Rattle.pilot_engine.proofs.start.write_tables.Goals as goal
 
 pub returns-clause-runs : goal.returns-clause-runs
@@ -32,8 +34,13 @@ returns-clause-makes g c = rw c.look_at_frames.ensures.same (own_makes c.begin.e
 pub returns-in-Err-clause-makes : goal.returns-in-Err-clause-makes
 returns-in-Err-clause-makes g c = own_makes c.begin.ensures.kept.goes.makes
 
-pub returns-in-Err-clause-evidence_seen : goal.returns-in-Err-clause-evidence_seen
-returns-in-Err-clause-evidence_seen g c = shows_evidence _ (view_of c.args.filer.now) (view_of c.begin.new.filer) (fits (swapper_of c.args.filer.now) c.requires.size) c.begin.ensures.kept.goes.makes c.in-Err.halt c.in-Err.ensures.cause
+pub returns-in-Err-clause-fails : goal.returns-in-Err-clause-fails
+returns-in-Err-clause-fails g c =
+    record {
+      cause = c.in-Err.ensures.cause;
+      counted = λ is. subst (TablesHalts (view_of c.args.filer.now) (view_of c.begin.new.filer)) is c.in-Err.ensures.cause;
+      evidence_seen = shows_evidence _ (view_of c.args.filer.now) (view_of c.begin.new.filer) (fits (swapper_of c.args.filer.now) c.requires.size) c.begin.ensures.kept.goes.makes c.in-Err.halt c.in-Err.ensures.cause;
+    }
 
 -- ---- What began stays a reason.
 

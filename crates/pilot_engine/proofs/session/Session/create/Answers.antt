@@ -31,100 +31,139 @@ use Rattle.pilot_engine.proofs.SparedCalls.{all_but, spares_itself}
 use Rattle.pilot_engine.proofs.SparedFiles.{spares_made, spares_making}
 use Rattle.pilot_engine.proofs.CameOwn.{own_itself}
 use Rattle.pilot_engine.proofs.WritingLemmas.{counted_numbers, only_created, only_creating, only_still}
+use Rattle.pilot_engine.proofs.AskedSteps.{remains_itself}
 use Rattle.pilot_engine.proofs.session.Session.create.Goals as goal
 
-pub returns-then-pages-free-clause-carried : goal.returns-then-pages-free-clause-carried
-returns-then-pages-free-clause-carried g c = λ spaces_of m s.
-    let left = room_is spaces_of _ _ _ _ _ m s (accepted c.args.self.now.core.filer) c.requires.opened.same_layout in
+pub returns-then-pages-free-clause-answers : goal.returns-then-pages-free-clause-answers
+returns-then-pages-free-clause-answers g c = λ spaces_of m s.
+    let left = room_is spaces_of _ _ _ _ _ m s (accepted c.args.self.now.core.filer) c.requires.set_up.opened.same_layout in
     let over = c.if-pages-free.true in
-    create_refused spaces_of _ _ _ _ _ m s (call.Create c.args.pages c.args.kind) why.Full (create_full m c.args.pages c.args.kind (omega (arith, over, left, s.same_used)))
+    record {
+      carried = create_refused spaces_of _ _ _ _ _ m s (call.Create c.args.pages c.args.kind) why.Full (create_full m c.args.pages c.args.kind (omega (arith, over, left, s.same_used)));
+      passes = no_step spaces_of _ _ _ _ m (call.Create c.args.pages c.args.kind) s.stands (goes_itself Same volume_page (state c.args.self.now.core).disk (state c.args.self.now.core).slots (λ x. refl)).makes (g.met.D.Disk.in_form (disk_of c.args.self.now.core.filer));
+      came = own_itself (state c.args.self.now.core).slots;
+    }
 
-pub returns-then-pages-free-clause-wrote : goal.returns-then-pages-free-clause-wrote
-returns-then-pages-free-clause-wrote g c = record { labels = []; makes = (goes_itself Same volume_page (state c.args.self.now.core).disk (state c.args.self.now.core).slots (λ x. refl)).makes; opens = tt }
+pub returns-then-pages-free-clause-writes : goal.returns-then-pages-free-clause-writes
+returns-then-pages-free-clause-writes g c =
+    let root = c.args.self.now.volume.root in
+    let what = call.Create c.args.pages c.args.kind in
+    record {
+      wrote = record { labels = []; makes = (goes_itself Same volume_page (state c.args.self.now.core).disk (state c.args.self.now.core).slots (λ x. refl)).makes; opens = tt };
+      own = (only_still (next_id root) (counted root) what (state c.args.self.now.core).disk, only_still (next_id root) root what (state c.args.self.now.core).disk);
+      spares = all_but (spares_itself (state c.args.self.now.core).disk);
+    }
 
-pub returns-then-self-clause-carried : goal.returns-then-self-clause-carried
-returns-then-self-clause-carried g c = λ spaces_of m s.
-    let left = room_is spaces_of _ _ _ _ _ m s (accepted c.args.self.now.core.filer) c.requires.opened.same_layout in
+pub returns-then-self-clause-answers : goal.returns-then-self-clause-answers
+returns-then-self-clause-answers g c = λ spaces_of m s.
+    let left = room_is spaces_of _ _ _ _ _ m s (accepted c.args.self.now.core.filer) c.requires.set_up.opened.same_layout in
     let under = c.if-pages-free.false in
-    create_refused spaces_of _ _ _ _ _ m s (call.Create c.args.pages c.args.kind) why.Ids (create_ids m c.args.pages c.args.kind (omega (arith, under, left, s.same_used)) (sym s.same_counter ∙ c.if-self.true))
+    record {
+      carried = create_refused spaces_of _ _ _ _ _ m s (call.Create c.args.pages c.args.kind) why.Ids (create_ids m c.args.pages c.args.kind (omega (arith, under, left, s.same_used)) (sym s.same_counter ∙ c.if-self.true));
+      passes = no_step spaces_of _ _ _ _ m (call.Create c.args.pages c.args.kind) s.stands (goes_itself Same volume_page (state c.args.self.now.core).disk (state c.args.self.now.core).slots (λ x. refl)).makes (g.met.D.Disk.in_form (disk_of c.args.self.now.core.filer));
+      came = own_itself (state c.args.self.now.core).slots;
+    }
 
-pub returns-then-self-clause-wrote : goal.returns-then-self-clause-wrote
-returns-then-self-clause-wrote g c = record { labels = []; makes = (goes_itself Same volume_page (state c.args.self.now.core).disk (state c.args.self.now.core).slots (λ x. refl)).makes; opens = tt }
+pub returns-then-self-clause-writes : goal.returns-then-self-clause-writes
+returns-then-self-clause-writes g c =
+    let root = c.args.self.now.volume.root in
+    let what = call.Create c.args.pages c.args.kind in
+    record {
+      wrote = record { labels = []; makes = (goes_itself Same volume_page (state c.args.self.now.core).disk (state c.args.self.now.core).slots (λ x. refl)).makes; opens = tt };
+      own = (only_still (next_id root) (counted root) what (state c.args.self.now.core).disk, only_still (next_id root) root what (state c.args.self.now.core).disk);
+      spares = all_but (spares_itself (state c.args.self.now.core).disk);
+    }
 
-pub returns-in-Ok-clause-carried : goal.returns-in-Ok-clause-carried
-returns-in-Ok-clause-carried g c = λ spaces_of m s.
+pub returns-in-Ok-clause-answers : goal.returns-in-Ok-clause-answers
+returns-in-Ok-clause-answers g c = λ spaces_of m s.
     let is = (accepted c.args.self.now.core.filer) in
-    let left = room_is spaces_of _ _ _ _ _ m s is c.requires.opened.same_layout in
-    let same_room : c.args.self.now.volume.layout.capacity ≡ (state c.args.self.now.core).layout.capacity = ap (λ l. l.capacity) c.requires.opened.same_layout in
+    let left = room_is spaces_of _ _ _ _ _ m s is c.requires.set_up.opened.same_layout in
+    let same_room : c.args.self.now.volume.layout.capacity ≡ (state c.args.self.now.core).layout.capacity = ap (λ l. l.capacity) c.requires.set_up.opened.same_layout in
     let under = c.if-pages-free.false in
     let other : c.args.self.now.volume.root.counter < 4294967295 = search rules in
     let made = c.in-Ok.ensures.created s.stands.memory (shapes_of m.files) m.spaces (may_create spaces_of _ _ _ _ _ m s is c.args.pages (omega (arith, under, same_room))) in
     let free = create_there m c.args.pages c.args.kind (omega (arith, under, left, s.same_used)) (omega (arith, other, s.same_counter)) in
     let small = c.ranges.kind.fits in
-    subst (λ (id : ℕ). Carries spaces_of m (call.Create c.args.pages c.args.kind) (reply.File id) (view_of c.create.new.filer).disk (view_of c.create.new.filer).slots (view_of c.create.new.filer).layout c.create.new.filer.runs c.create.new.volume)
-    (sym c.in-Ok.ensures.volume.0)
-    (carries_at spaces_of m (call.Create c.args.pages c.args.kind) _ _ _ _ _ _ _
-    (create_done spaces_of _ _ _ _ _ m s is c.args.pages c.args.kind small _ _ _ _ free c.in-Ok.ensures.volume.1 made) c.create.ensures.stays.layout)
+    record {
+      carried = (subst (λ (id : ℕ). Carries spaces_of m (call.Create c.args.pages c.args.kind) (reply.File id) (view_of c.create.new.filer).disk (view_of c.create.new.filer).slots (view_of c.create.new.filer).layout c.create.new.filer.runs c.create.new.volume)
+          (sym c.in-Ok.ensures.volume.0)
+          (carries_at spaces_of m (call.Create c.args.pages c.args.kind) _ _ _ _ _ _ _
+          (create_done spaces_of _ _ _ _ _ m s is c.args.pages c.args.kind small _ _ _ _ free c.in-Ok.ensures.volume.1 made) c.create.ensures.stays.layout));
+      passes = (let is = (accepted c.args.self.now.core.filer) in
+          let same_room : c.args.self.now.volume.layout.capacity ≡ (state c.args.self.now.core).layout.capacity = ap (λ l. l.capacity) c.requires.set_up.opened.same_layout in
+          let under = c.if-pages-free.false in
+          let other : c.args.self.now.volume.root.counter < 4294967295 = search rules in
+          let small : c.args.pages < 4294967295 = search rules in
+          let made = c.in-Ok.ensures.created s.stands.memory (shapes_of m.files) m.spaces (may_create spaces_of _ _ _ _ _ m s is c.args.pages (omega (arith, under, same_room))) in
+          let left = room_is spaces_of _ _ _ _ _ m s is c.requires.set_up.opened.same_layout in
+          let free = create_there m c.args.pages c.args.kind (omega (arith, under, left, s.same_used)) (omega (arith, other, s.same_counter)) in
+          create_passed spaces_of _ _ _ _ _ m s (g.met.D.Disk.in_form (disk_of c.args.self.now.core.filer)) c.requires.set_up.opened.valid other c.args.kind c.args.pages _ _ _ small free made);
+      came = (c.in-Ok.ensures.created s.stands.memory (shapes_of m.files) m.spaces (may_create spaces_of _ _ _ _ _ m s is c.args.pages (omega (arith, under, same_room)))).leads.brings;
+    }
 
-pub returns-in-Ok-clause-wrote : goal.returns-in-Ok-clause-wrote
-returns-in-Ok-clause-wrote g c = wrote_file c.args.self.now.volume.root c.args.kind c.args.pages c.in-Ok.ensures.writes
+pub returns-in-Ok-clause-writes : goal.returns-in-Ok-clause-writes
+returns-in-Ok-clause-writes g c =
+    let root = c.args.self.now.volume.root in
+    let serial : root.serial < 2 ^ 32 = search rules in
+    let counter : root.counter < 4294967295 = search rules in
+    let some = c.requires.set_up.opened.valid.serial in
+    record {
+      wrote = wrote_file c.args.self.now.volume.root c.args.kind c.args.pages c.in-Ok.ensures.writes;
+      own = (let now = ap (λ (v : Volume). v.root) c.in-Ok.ensures.volume.1 in (
+        (only_created root (counted root) some (counted_numbers root (counted root) refl serial counter) c.args.pages c.args.kind c.in-Ok.ensures.writes),
+        (only_created root c.create.new.volume.root some (counted_numbers root c.create.new.volume.root now serial counter) c.args.pages c.args.kind c.in-Ok.ensures.writes),
+      ));
+      spares = spares_made c.args.self.now.volume.root c.args.kind c.args.pages c.in-Ok.ensures.writes;
+    }
 
 pub returns-in-Err-clause-sound : goal.returns-in-Err-clause-sound
 returns-in-Err-clause-sound g c = λ spaces_of m s.
     let is = (accepted c.args.self.now.core.filer) in
-    let same_room : c.args.self.now.volume.layout.capacity ≡ (state c.args.self.now.core).layout.capacity = ap (λ l. l.capacity) c.requires.opened.same_layout in
+    let same_room : c.args.self.now.volume.layout.capacity ≡ (state c.args.self.now.core).layout.capacity = ap (λ l. l.capacity) c.requires.set_up.opened.same_layout in
     let under = c.if-pages-free.false in
     (c.in-Err.ensures.created s.stands.memory (shapes_of m.files) m.spaces (may_create spaces_of _ _ _ _ _ m s is c.args.pages (omega (arith, under, same_room)))).0
 
-pub returns-in-Err-clause-wrote : goal.returns-in-Err-clause-wrote
-returns-in-Err-clause-wrote g c = wrote_some c.args.self.now.volume.root c.args.kind c.args.pages c.in-Err.ensures.writes
+pub returns-in-Err-clause-writes : goal.returns-in-Err-clause-writes
+returns-in-Err-clause-writes g c =
+    let root = c.args.self.now.volume.root in
+    let serial : root.serial < 2 ^ 32 = search rules in
+    let counter : root.counter < 4294967295 = search rules in
+    record {
+      wrote = wrote_some c.args.self.now.volume.root c.args.kind c.args.pages c.in-Err.ensures.writes;
+      own = ((only_creating root (counted root) c.requires.set_up.opened.valid.serial (counted_numbers root (counted root) refl serial counter) c.args.pages c.args.kind c.in-Err.ensures.writes), tt);
+      spares = spares_making c.args.self.now.volume.root c.args.kind c.args.pages c.in-Err.ensures.writes;
+    }
 
-pub returns-then-pages-free-clause-passes : goal.returns-then-pages-free-clause-passes
-returns-then-pages-free-clause-passes g c = λ spaces_of m s.
-    no_step spaces_of _ _ _ _ m (call.Create c.args.pages c.args.kind) s.stands (goes_itself Same volume_page (state c.args.self.now.core).disk (state c.args.self.now.core).slots (λ x. refl)).makes (g.met.D.Disk.in_form (disk_of c.args.self.now.core.filer))
-
-pub returns-then-self-clause-passes : goal.returns-then-self-clause-passes
-returns-then-self-clause-passes g c = λ spaces_of m s.
-    no_step spaces_of _ _ _ _ m (call.Create c.args.pages c.args.kind) s.stands (goes_itself Same volume_page (state c.args.self.now.core).disk (state c.args.self.now.core).slots (λ x. refl)).makes (g.met.D.Disk.in_form (disk_of c.args.self.now.core.filer))
-
-pub returns-in-Ok-clause-passes : goal.returns-in-Ok-clause-passes
-returns-in-Ok-clause-passes g c = λ spaces_of m s.
+pub returns-in-Err-clause-answers : goal.returns-in-Err-clause-answers
+returns-in-Err-clause-answers g c = λ spaces_of m s.
     let is = (accepted c.args.self.now.core.filer) in
-    let same_room : c.args.self.now.volume.layout.capacity ≡ (state c.args.self.now.core).layout.capacity = ap (λ l. l.capacity) c.requires.opened.same_layout in
-    let under = c.if-pages-free.false in
-    let other : c.args.self.now.volume.root.counter < 4294967295 = search rules in
-    let small : c.args.pages < 4294967295 = search rules in
-    let made = c.in-Ok.ensures.created s.stands.memory (shapes_of m.files) m.spaces (may_create spaces_of _ _ _ _ _ m s is c.args.pages (omega (arith, under, same_room))) in
-    let left = room_is spaces_of _ _ _ _ _ m s is c.requires.opened.same_layout in
-    let free = create_there m c.args.pages c.args.kind (omega (arith, under, left, s.same_used)) (omega (arith, other, s.same_counter)) in
-    create_passed spaces_of _ _ _ _ _ m s (g.met.D.Disk.in_form (disk_of c.args.self.now.core.filer)) c.requires.opened.valid other c.args.kind c.args.pages _ _ _ small free made
-
-pub returns-in-Err-clause-passes : goal.returns-in-Err-clause-passes
-returns-in-Err-clause-passes g c = λ spaces_of m s.
-    let is = (accepted c.args.self.now.core.filer) in
-    let same_room : c.args.self.now.volume.layout.capacity ≡ (state c.args.self.now.core).layout.capacity = ap (λ l. l.capacity) c.requires.opened.same_layout in
+    let same_room : c.args.self.now.volume.layout.capacity ≡ (state c.args.self.now.core).layout.capacity = ap (λ l. l.capacity) c.requires.set_up.opened.same_layout in
     let under = c.if-pages-free.false in
     let other : c.args.self.now.volume.root.counter < 4294967295 = search rules in
     let small : c.args.pages < 4294967295 = search rules in
     let some = (c.in-Err.ensures.created s.stands.memory (shapes_of m.files) m.spaces (may_create spaces_of _ _ _ _ _ m s is c.args.pages (omega (arith, under, same_room)))).1 in
-    let left = room_is spaces_of _ _ _ _ _ m s is c.requires.opened.same_layout in
+    let left = room_is spaces_of _ _ _ _ _ m s is c.requires.set_up.opened.same_layout in
     let free = create_there m c.args.pages c.args.kind (omega (arith, under, left, s.same_used)) (omega (arith, other, s.same_counter)) in
-    create_broken spaces_of _ _ _ _ _ m s (g.met.D.Disk.in_form (disk_of c.args.self.now.core.filer)) c.requires.opened.valid other c.args.kind c.args.pages _ _ small free some
+    record {
+      carried = tt;
+      passes = create_broken spaces_of _ _ _ _ _ m s (g.met.D.Disk.in_form (disk_of c.args.self.now.core.filer)) c.requires.set_up.opened.valid other c.args.kind c.args.pages _ _ small free some;
+      came = tt;
+    }
 
 pub returns-in-Ok-clause-bounded : goal.returns-in-Ok-clause-bounded
 returns-in-Ok-clause-bounded g c =
     let layout = (state c.args.self.now.core).layout in
-    let same_room : c.args.self.now.volume.layout.capacity ≡ layout.capacity = ap (λ l. l.capacity) c.requires.opened.same_layout in
+    let same_room : c.args.self.now.volume.layout.capacity ≡ layout.capacity = ap (λ l. l.capacity) c.requires.set_up.opened.same_layout in
     let under = c.if-pages-free.false in
-    inside_layout layout (state c.args.self.now.core).disk (view_of c.create.new.filer).disk c.requires.size
+    inside_layout layout (state c.args.self.now.core).disk (view_of c.create.new.filer).disk c.requires.set_up.size
     (create_bounded layout (accepted c.args.self.now.core.filer) _ _ c.args.pages (omega (arith, under, same_room)) c.create.ensures.cost)
 
 pub returns-in-Err-clause-bounded : goal.returns-in-Err-clause-bounded
 returns-in-Err-clause-bounded g c =
     let layout = (state c.args.self.now.core).layout in
-    let same_room : c.args.self.now.volume.layout.capacity ≡ layout.capacity = ap (λ l. l.capacity) c.requires.opened.same_layout in
+    let same_room : c.args.self.now.volume.layout.capacity ≡ layout.capacity = ap (λ l. l.capacity) c.requires.set_up.opened.same_layout in
     let under = c.if-pages-free.false in
-    inside_layout layout (state c.args.self.now.core).disk (view_of c.create.new.filer).disk c.requires.size
+    inside_layout layout (state c.args.self.now.core).disk (view_of c.create.new.filer).disk c.requires.set_up.size
     (create_bounded layout (accepted c.args.self.now.core.filer) _ _ c.args.pages (omega (arith, under, same_room)) c.create.ensures.cost)
 
 -- ---- The file that the reply names.
@@ -154,117 +193,76 @@ returns-in-Ok-clause-home g c =
 
 -- ---- The initial state.
 
-pub returns-then-pages-free-clause-keeps_to : goal.returns-then-pages-free-clause-keeps_to
-returns-then-pages-free-clause-keeps_to g c = λ o k up. given_on o (state c.args.self.now.core) (next_id c.args.self.now.volume.root) up.next k
+pub returns-then-pages-free-clause-accounts : goal.returns-then-pages-free-clause-accounts
+returns-then-pages-free-clause-accounts g c = λ o k up. record {
+  keeps_to = given_on o (state c.args.self.now.core) (next_id c.args.self.now.volume.root) up.next k;
+  reasons = tt;
+  sees = λ ss sees. sees;
+}
 
-pub returns-then-self-clause-keeps_to : goal.returns-then-self-clause-keeps_to
-returns-then-self-clause-keeps_to g c = λ o k up. given_on o (state c.args.self.now.core) (next_id c.args.self.now.volume.root) up.next k
+pub returns-then-self-clause-accounts : goal.returns-then-self-clause-accounts
+returns-then-self-clause-accounts g c = λ o k up. record {
+  keeps_to = given_on o (state c.args.self.now.core) (next_id c.args.self.now.volume.root) up.next k;
+  reasons = tt;
+  sees = λ ss sees. sees;
+}
 
-pub returns-in-Ok-clause-keeps_to : goal.returns-in-Ok-clause-keeps_to
-returns-in-Ok-clause-keeps_to g c = λ o k up. let from = c.in-Ok.ensures.accounts o k.0 k.1.0 up in (from.0, (from.1, (from.2 k.1.1.0, k.1.1.1)))
-
-pub returns-in-Err-clause-reasons : goal.returns-in-Err-clause-reasons
-returns-in-Err-clause-reasons g c = λ o k up. c.in-Err.ensures.accounts o k.0 k.1.0 up
-
--- ---- What is seen of the space tables.
-
-pub returns-then-pages-free-clause-sees : goal.returns-then-pages-free-clause-sees
-returns-then-pages-free-clause-sees g c = λ o k up ss sees. sees
-
-pub returns-then-self-clause-sees : goal.returns-then-self-clause-sees
-returns-then-self-clause-sees g c = λ o k up ss sees. sees
-
-pub returns-in-Ok-clause-sees : goal.returns-in-Ok-clause-sees
-returns-in-Ok-clause-sees g c = λ o k up.
+pub returns-in-Ok-clause-accounts : goal.returns-in-Ok-clause-accounts
+returns-in-Ok-clause-accounts g c = λ o k up.
     let old = c.args.self.now.core in
-    same_given o (giving o (next_id c.create.new.volume.root)) (state old) (view_of c.create.new.filer) (accepted old.filer) k
-    (λ b h. c.in-Ok.ensures.accounts (telling o b) k.0 h (record { monotone = up.monotone; next = up.next }))
+    record {
+      keeps_to = let from = c.in-Ok.ensures.accounts o k.0 k.1.0 up in (from.0, (from.1, (from.2 k.1.1.0, k.1.1.1)));
+      reasons = tt;
+      sees = (same_given o (giving o (next_id c.create.new.volume.root)) (state old) (view_of c.create.new.filer) (accepted old.filer) k
+          (λ b h. c.in-Ok.ensures.accounts (telling o b) k.0 h (record { monotone = up.monotone; next = up.next })));
+    }
 
-pub returns-in-Err-clause-sees : goal.returns-in-Err-clause-sees
-returns-in-Err-clause-sees g c = λ o k up seen.
-    let old = c.args.self.now.core in
-    let disk = (view_of c.create.new.filer).disk in
-    seen_blameless o (state old) (accepted old.filer) k (state old).layout disk c.in-Err.halt (λ b h. c.in-Err.ensures.accounts (telling o b) k.0 h (record { monotone = up.monotone; next = up.next }))
-    (new_misses (file_pages o disk) (next_id c.args.self.now.volume.root) (IsNewPage c.args.pages) (state old) (view_of c.create.new.filer) c.in-Err.halt c.in-Err.ensures.fails.cause) seen
+pub returns-in-Err-clause-accounts : goal.returns-in-Err-clause-accounts
+returns-in-Err-clause-accounts g c = λ o k up. record {
+  keeps_to = tt;
+  reasons = c.in-Err.ensures.accounts o k.0 k.1.0 up;
+  sees = (λ seen.
+      let old = c.args.self.now.core in
+      let disk = (view_of c.create.new.filer).disk in
+      seen_blameless o (state old) (accepted old.filer) k (state old).layout disk c.in-Err.halt (λ b h. c.in-Err.ensures.accounts (telling o b) k.0 h (record { monotone = up.monotone; next = up.next }))
+      (new_misses (file_pages o disk) (next_id c.args.self.now.volume.root) (IsNewPage c.args.pages) (state old) (view_of c.create.new.filer) c.in-Err.halt c.in-Err.ensures.fails.cause) seen);
+}
 
 -- ---- The next identifier.
 
-pub returns-in-Ok-clause-stays : goal.returns-in-Ok-clause-stays
-returns-in-Ok-clause-stays g c = record {
-  open_still = (search rules);
-  monotone = (counted_next c.args.self.now.volume.root c.create.new.volume.root (ap (λ (v : Volume). v.root) c.in-Ok.ensures.volume.1));
-  serial = (ap (λ (v : Volume). v.root.serial) c.in-Ok.ensures.volume.1);
-  layout = (search rules);
+pub returns-in-Ok-clause-remains : goal.returns-in-Ok-clause-remains
+returns-in-Ok-clause-remains g c = record {
+  stays = record {
+    open_still = (search rules);
+    monotone = (counted_next c.args.self.now.volume.root c.create.new.volume.root (ap (λ (v : Volume). v.root) c.in-Ok.ensures.volume.1));
+    serial = (ap (λ (v : Volume). v.root.serial) c.in-Ok.ensures.volume.1);
+    layout = (search rules);
+  };
+  running = refl;
+  kept = refl;
+  intervals = refl;
 }
 
-pub returns-in-Err-clause-stays : goal.returns-in-Err-clause-stays
-returns-in-Err-clause-stays g c = record {
-  open_still = (search rules);
-  monotone = (same_next c.args.self.now.volume.root c.create.new.volume.root (ap (λ (v : Volume). v.root) c.in-Err.ensures.volume));
-  serial = (ap (λ (v : Volume). v.root.serial) c.in-Err.ensures.volume);
-  layout = (search rules);
+pub returns-in-Err-clause-remains : goal.returns-in-Err-clause-remains
+returns-in-Err-clause-remains g c = record {
+  stays = record {
+    open_still = (search rules);
+    monotone = (same_next c.args.self.now.volume.root c.create.new.volume.root (ap (λ (v : Volume). v.root) c.in-Err.ensures.volume));
+    serial = (ap (λ (v : Volume). v.root.serial) c.in-Err.ensures.volume);
+    layout = (search rules);
+  };
+  running = refl;
+  kept = refl;
+  intervals = refl;
 }
-
--- ---- Which files are spared.
-
-pub returns-then-pages-free-clause-spares : goal.returns-then-pages-free-clause-spares
-returns-then-pages-free-clause-spares g c = all_but (spares_itself (state c.args.self.now.core).disk)
-
-pub returns-then-self-clause-spares : goal.returns-then-self-clause-spares
-returns-then-self-clause-spares g c = all_but (spares_itself (state c.args.self.now.core).disk)
-
-pub returns-in-Ok-clause-spares : goal.returns-in-Ok-clause-spares
-returns-in-Ok-clause-spares g c = spares_made c.args.self.now.volume.root c.args.kind c.args.pages c.in-Ok.ensures.writes
-
-pub returns-in-Err-clause-spares : goal.returns-in-Err-clause-spares
-returns-in-Err-clause-spares g c = spares_making c.args.self.now.volume.root c.args.kind c.args.pages c.in-Err.ensures.writes
-
--- ---- Which pages came.
-
-pub returns-then-pages-free-clause-came : goal.returns-then-pages-free-clause-came
-returns-then-pages-free-clause-came g c = λ spaces_of m s. own_itself (state c.args.self.now.core).slots
-
-pub returns-then-self-clause-came : goal.returns-then-self-clause-came
-returns-then-self-clause-came g c = λ spaces_of m s. own_itself (state c.args.self.now.core).slots
-
-pub returns-in-Err-clause-came : goal.returns-in-Err-clause-came
-returns-in-Err-clause-came g c = λ spaces_of m s. tt
-
-pub returns-in-Ok-clause-came : goal.returns-in-Ok-clause-came
-returns-in-Ok-clause-came g c = λ spaces_of m s.
-    let is = (accepted c.args.self.now.core.filer) in
-    let same_room : c.args.self.now.volume.layout.capacity ≡ (state c.args.self.now.core).layout.capacity = ap (λ l. l.capacity) c.requires.opened.same_layout in
-    let under = c.if-pages-free.false in
-    (c.in-Ok.ensures.created s.stands.memory (shapes_of m.files) m.spaces (may_create spaces_of _ _ _ _ _ m s is c.args.pages (omega (arith, under, same_room)))).leads.brings
 
 -- ---- What is written.
 
-pub returns-then-pages-free-clause-own : goal.returns-then-pages-free-clause-own
-returns-then-pages-free-clause-own g c =
-    let root = c.args.self.now.volume.root in
-    let what = call.Create c.args.pages c.args.kind in
-    (only_still (next_id root) (counted root) what (state c.args.self.now.core).disk, only_still (next_id root) root what (state c.args.self.now.core).disk)
+pub returns-in-Err-clause-fails : goal.returns-in-Err-clause-fails
+returns-in-Err-clause-fails g c = c.in-Err.ensures.fails
 
-pub returns-then-self-clause-own : goal.returns-then-self-clause-own
-returns-then-self-clause-own g c =
-    let root = c.args.self.now.volume.root in
-    let what = call.Create c.args.pages c.args.kind in
-    (only_still (next_id root) (counted root) what (state c.args.self.now.core).disk, only_still (next_id root) root what (state c.args.self.now.core).disk)
+pub returns-then-pages-free-clause-remains : goal.returns-then-pages-free-clause-remains
+returns-then-pages-free-clause-remains g c = remains_itself c.requires.set_up.opened
 
-pub returns-in-Ok-clause-own : goal.returns-in-Ok-clause-own
-returns-in-Ok-clause-own g c =
-    let root = c.args.self.now.volume.root in
-    let serial : root.serial < 2 ^ 32 = search rules in
-    let counter : root.counter < 4294967295 = search rules in
-    let some = c.requires.opened.valid.serial in
-    let now = ap (λ (v : Volume). v.root) c.in-Ok.ensures.volume.1 in (
-      (only_created root (counted root) some (counted_numbers root (counted root) refl serial counter) c.args.pages c.args.kind c.in-Ok.ensures.writes),
-      (only_created root c.create.new.volume.root some (counted_numbers root c.create.new.volume.root now serial counter) c.args.pages c.args.kind c.in-Ok.ensures.writes),
-    )
-
-pub returns-in-Err-clause-own : goal.returns-in-Err-clause-own
-returns-in-Err-clause-own g c =
-    let root = c.args.self.now.volume.root in
-    let serial : root.serial < 2 ^ 32 = search rules in
-    let counter : root.counter < 4294967295 = search rules in
-    ((only_creating root (counted root) c.requires.opened.valid.serial (counted_numbers root (counted root) refl serial counter) c.args.pages c.args.kind c.in-Err.ensures.writes), tt)
+pub returns-then-self-clause-remains : goal.returns-then-self-clause-remains
+returns-then-self-clause-remains g c = remains_itself c.requires.set_up.opened

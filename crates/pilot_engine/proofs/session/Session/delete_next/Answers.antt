@@ -1,4 +1,4 @@
-use Rattle.std.proofs.Common.{refl, ℕ, ◌<◌, ◌≤◌, Option, subst, arith, inl, inr}
+use Rattle.std.proofs.Common.{ℕ, ◌<◌, ◌≤◌, Option, subst, arith, inl, inr, refl}
 use Rattle.std.specs.Prelude.{IfSome}
 use Rattle.session_words.specs.Parts.{shapes_of}
 use Rattle.file_manager.specs.Answer.{IsNextFile}
@@ -6,10 +6,8 @@ use Rattle.running_words.specs.Bound.{room_above}
 use Rattle.pilot_engine.proofs.EndCosts.{next_there, room_step, visited}
 use Rattle.running_words.proofs.SessionLemmas.{session_books}
 use Rattle.pilot_engine.proofs.ShedLemmas.{asked_alone, shed_last, shed_next}
-use Rattle.pilot_engine.proofs.WroteLemmas.{wrote_by, wrote_then}
 use Rattle.pilot_engine.specs.Closing.{IsOpenStop}
 use Rattle.pilot_engine.proofs.StopLemmas.{stops_quiet, throughout_then}
-use Rattle.pilot_engine.proofs.CountedHalts.{counted_then}
 use Rattle.fault_core.specs.Core.{state}
 use Rattle.space_calls.proofs.HaltLemmas.{look_reaches}
 use Rattle.labelled_disk.specs.declared.layout.Layout.{Layout}
@@ -19,60 +17,55 @@ use Rattle.pilot_engine.proofs.EndNeverBlames.{end_blameless, search_no_table}
 use Rattle.pilot_engine.proofs.HomeLemmas.{file_later, file_pages}
 use Rattle.pilot_engine.proofs.LackLemmas.{search_misses}
 use Rattle.pilot_engine.proofs.SeesLemmas.{seen_blameless, seen_still}
-use Rattle.pilot_engine.proofs.WritingLemmas.{clears_none, clears_then}
+use Rattle.pilot_engine.proofs.FailSteps.{fails_after, fails_wider}
+use Rattle.pilot_engine.proofs.EndSteps.{cleared_after, cleared_asked}
 use Rattle.pilot_engine.proofs.session.Session.delete_next.Goals as goal
 
-pub returns-in-Ok-None-clause-shed : goal.returns-in-Ok-None-clause-shed
-returns-in-Ok-None-clause-shed g c = λ spaces_of m s.
+pub returns-in-Ok-None-clause-ends : goal.returns-in-Ok-None-clause-ends
+returns-in-Ok-None-clause-ends g c = λ spaces_of m s.
     let books = session_books spaces_of _ _ _ _ _ m s.session in
     let f = c.next.ensures in
     let now = asked_alone spaces_of _ _ _ _ _ _ _ _ m s f.stays.makes f.stays.brings ((f.revealed s.session.stands.memory (shapes_of m.files) m.spaces books).1) _ f.stays.layout in
-    shed_last spaces_of _ _ _ _ _ m c.args.cursor (subst (IsNextFile (shapes_of m.files) c.args.cursor) c.in-Ok-None.field-0-is ((c.in-Ok-None.ensures.revealed s.session.stands.memory (shapes_of m.files) m.spaces books).0)) now
+    record {
+      gives = shed_last spaces_of _ _ _ _ _ m c.args.cursor (subst (IsNextFile (shapes_of m.files) c.args.cursor) c.in-Ok-None.field-0-is ((c.in-Ok-None.ensures.revealed s.session.stands.memory (shapes_of m.files) m.spaces books).0)) now;
+      sound = tt;
+      stops = stops_quiet spaces_of _ _ _ _ m s.session.stands (g.met.D.Disk.in_form (disk_of c.args.self.now.core.filer)) c.next.ensures.stays.makes;
+    }
 
-pub returns-in-Err-clause-sound : goal.returns-in-Err-clause-sound
-returns-in-Err-clause-sound g c = λ spaces_of m s. (c.in-Err.ensures.revealed s.session.stands.memory (shapes_of m.files) m.spaces (session_books spaces_of _ _ _ _ _ m s.session)).0
+pub returns-in-Err-clause-ends : goal.returns-in-Err-clause-ends
+returns-in-Err-clause-ends g c = λ spaces_of m s. record {
+  gives = tt;
+  sound = (c.in-Err.ensures.revealed s.session.stands.memory (shapes_of m.files) m.spaces (session_books spaces_of _ _ _ _ _ m s.session)).0;
+  stops = stops_quiet spaces_of _ _ _ _ m s.session.stands (g.met.D.Disk.in_form (disk_of c.args.self.now.core.filer)) c.next.ensures.stays.makes;
+}
 
-pub returns-in-Ok-clause-shed : goal.returns-in-Ok-clause-shed
-returns-in-Ok-clause-shed g c = λ spaces_of m s.
+pub returns-in-Ok-clause-ends : goal.returns-in-Ok-clause-ends
+returns-in-Ok-clause-ends g c = λ spaces_of m s.
     let books = session_books spaces_of _ _ _ _ _ m s.session in
     let f = c.next.ensures in
     let now = asked_alone spaces_of _ _ _ _ _ _ _ _ m s f.stays.makes f.stays.brings ((f.revealed s.session.stands.memory (shapes_of m.files) m.spaces books).1) _ f.stays.layout in
-    shed_next spaces_of _ _ _ _ _ m c.args.cursor _ (subst (IsNextFile (shapes_of m.files) c.args.cursor) c.in-Ok-Some.field-0-is ((c.in-Ok-Some.ensures.revealed s.session.stands.memory (shapes_of m.files) m.spaces books).0)) (c.in-Ok.ensures.shed spaces_of m now)
+    record {
+      gives = shed_next spaces_of _ _ _ _ _ m c.args.cursor _ (subst (IsNextFile (shapes_of m.files) c.args.cursor) c.in-Ok-Some.field-0-is ((c.in-Ok-Some.ensures.revealed s.session.stands.memory (shapes_of m.files) m.spaces books).0)) ((c.in-Ok.ensures.ends spaces_of m now).gives);
+      sound = tt;
+      stops = throughout_then (IsOpenStop m) (stops_quiet spaces_of _ _ _ _ m s.session.stands (g.met.D.Disk.in_form (disk_of c.args.self.now.core.filer)) c.next.ensures.stays.makes) ((c.delete_unless_permanent.ensures.ends spaces_of m now).stops);
+    }
 
-pub returns-in-Ok-clause-wrote : goal.returns-in-Ok-clause-wrote
-returns-in-Ok-clause-wrote g c = wrote_then (wrote_by c.next.ensures.stays.makes tt) c.delete_unless_permanent.ensures.wrote
+pub returns-in-Ok-clause-clears : goal.returns-in-Ok-clause-clears
+returns-in-Ok-clause-clears g c = cleared_after (cleared_asked c.args.self.now _ c.next.ensures.stays c.requires.set_up.opened refl) c.delete_unless_permanent.ensures.clears
 
-pub returns-in-Err-delete_unless_permanent-clause-sound : goal.returns-in-Err-delete_unless_permanent-clause-sound
-returns-in-Err-delete_unless_permanent-clause-sound g c = λ spaces_of m s.
-    let books = session_books spaces_of _ _ _ _ _ m s.session in
-    let f = c.next.ensures in
-    c.in-Err-delete_unless_permanent.ensures.sound spaces_of m (asked_alone spaces_of _ _ _ _ _ _ _ _ m s f.stays.makes f.stays.brings ((f.revealed s.session.stands.memory (shapes_of m.files) m.spaces books).1) _ f.stays.layout)
-
-pub returns-in-Err-delete_unless_permanent-clause-wrote : goal.returns-in-Err-delete_unless_permanent-clause-wrote
-returns-in-Err-delete_unless_permanent-clause-wrote g c = wrote_then (wrote_by c.next.ensures.stays.makes tt) c.delete_unless_permanent.ensures.wrote
-
-pub returns-in-Ok-None-clause-stops : goal.returns-in-Ok-None-clause-stops
-returns-in-Ok-None-clause-stops g c = λ spaces_of m s. stops_quiet spaces_of _ _ _ _ m s.session.stands (g.met.D.Disk.in_form (disk_of c.args.self.now.core.filer)) c.next.ensures.stays.makes
-
-pub returns-in-Err-clause-stops : goal.returns-in-Err-clause-stops
-returns-in-Err-clause-stops g c = λ spaces_of m s. stops_quiet spaces_of _ _ _ _ m s.session.stands (g.met.D.Disk.in_form (disk_of c.args.self.now.core.filer)) c.next.ensures.stays.makes
-
-pub returns-in-Ok-clause-stops : goal.returns-in-Ok-clause-stops
-returns-in-Ok-clause-stops g c = λ spaces_of m s.
+pub returns-in-Err-delete_unless_permanent-clause-ends : goal.returns-in-Err-delete_unless_permanent-clause-ends
+returns-in-Err-delete_unless_permanent-clause-ends g c = λ spaces_of m s.
     let books = session_books spaces_of _ _ _ _ _ m s.session in
     let f = c.next.ensures in
     let now = asked_alone spaces_of _ _ _ _ _ _ _ _ m s f.stays.makes f.stays.brings ((f.revealed s.session.stands.memory (shapes_of m.files) m.spaces books).1) _ f.stays.layout in
-    throughout_then (IsOpenStop m) (stops_quiet spaces_of _ _ _ _ m s.session.stands (g.met.D.Disk.in_form (disk_of c.args.self.now.core.filer)) c.next.ensures.stays.makes) (c.delete_unless_permanent.ensures.stops spaces_of m now)
+    record {
+      gives = tt;
+      sound = (c.in-Err-delete_unless_permanent.ensures.ends spaces_of m (asked_alone spaces_of _ _ _ _ _ _ _ _ m s f.stays.makes f.stays.brings ((f.revealed s.session.stands.memory (shapes_of m.files) m.spaces books).1) _ f.stays.layout)).sound;
+      stops = throughout_then (IsOpenStop m) (stops_quiet spaces_of _ _ _ _ m s.session.stands (g.met.D.Disk.in_form (disk_of c.args.self.now.core.filer)) c.next.ensures.stays.makes) ((c.delete_unless_permanent.ensures.ends spaces_of m now).stops);
+    }
 
-pub returns-in-Err-delete_unless_permanent-clause-stops : goal.returns-in-Err-delete_unless_permanent-clause-stops
-returns-in-Err-delete_unless_permanent-clause-stops g c = λ spaces_of m s.
-    let books = session_books spaces_of _ _ _ _ _ m s.session in
-    let f = c.next.ensures in
-    let now = asked_alone spaces_of _ _ _ _ _ _ _ _ m s f.stays.makes f.stays.brings ((f.revealed s.session.stands.memory (shapes_of m.files) m.spaces books).1) _ f.stays.layout in
-    throughout_then (IsOpenStop m) (stops_quiet spaces_of _ _ _ _ m s.session.stands (g.met.D.Disk.in_form (disk_of c.args.self.now.core.filer)) c.next.ensures.stays.makes) (c.delete_unless_permanent.ensures.stops spaces_of m now)
-
-pub returns-in-Err-delete_unless_permanent-clause-counted : goal.returns-in-Err-delete_unless_permanent-clause-counted
-returns-in-Err-delete_unless_permanent-clause-counted g c = counted_then _ _ _ c.next.ensures.stays.makes.went.faults c.in-Err-delete_unless_permanent.ensures.counted
+pub returns-in-Err-delete_unless_permanent-clause-clears : goal.returns-in-Err-delete_unless_permanent-clause-clears
+returns-in-Err-delete_unless_permanent-clause-clears g c = cleared_after (cleared_asked c.args.self.now _ c.next.ensures.stays c.requires.set_up.opened refl) c.delete_unless_permanent.ensures.clears
 
 pub returns-in-Ok-clause-paid : goal.returns-in-Ok-clause-paid
 returns-in-Ok-clause-paid g c = λ spaces_of m s.
@@ -124,11 +117,11 @@ returns-in-Ok-clause-above g c = (subst (λ (o : Option ℕ). IfSome o (λ id. (
 
 -- ---- Why it failed.
 
-pub returns-in-Err-clause-cause : goal.returns-in-Err-clause-cause
-returns-in-Err-clause-cause g c = inl c.in-Err.ensures.fails.cause
+pub returns-in-Err-clause-fails : goal.returns-in-Err-clause-fails
+returns-in-Err-clause-fails g c = fails_wider (λ h. inl h) c.in-Err.ensures.fails
 
-pub returns-in-Err-delete_unless_permanent-clause-cause : goal.returns-in-Err-delete_unless_permanent-clause-cause
-returns-in-Err-delete_unless_permanent-clause-cause g c = inr (state (record c.args.self.now.core { filer = c.next.new.filer }), look_reaches (state c.args.self.now.core) (state (record c.args.self.now.core { filer = c.next.new.filer })) c.next.ensures.stays.looks c.next.ensures.stays.layout, (c.in-Ok-Some.id, c.in-Err-delete_unless_permanent.ensures.cause))
+pub returns-in-Err-delete_unless_permanent-clause-fails : goal.returns-in-Err-delete_unless_permanent-clause-fails
+returns-in-Err-delete_unless_permanent-clause-fails g c = fails_after c.next.ensures.stays.makes.went.faults (λ h. inr (state (record c.args.self.now.core { filer = c.next.new.filer }), look_reaches (state c.args.self.now.core) (state (record c.args.self.now.core { filer = c.next.new.filer })) c.next.ensures.stays.looks c.next.ensures.stays.layout, (c.in-Ok-Some.id, h))) c.in-Err-delete_unless_permanent.ensures.fails
 
 -- ---- What began stays a reason.
 
@@ -170,18 +163,10 @@ returns-in-Err-delete_unless_permanent-clause-accounts g c = λ o k. record {
       (seen_still o (state old) (accepted old.filer) k (view_of c.next.new.filer) (λ b. c.in-Ok-Some.ensures.accounts (telling o b) k.0) (file_later o c.next.ensures.stays.makes) seen));
 }
 
--- ---- What is seen of the space tables, and which page is reported as missing.
-
 -- ---- Which files are spared.
 
-pub returns-in-Ok-None-clause-spares : goal.returns-in-Ok-None-clause-spares
-returns-in-Ok-None-clause-spares g c = clears_none c.next.ensures.stays.makes refl
+pub returns-in-Ok-None-clause-clears : goal.returns-in-Ok-None-clause-clears
+returns-in-Ok-None-clause-clears g c = cleared_asked c.args.self.now _ c.next.ensures.stays c.requires.set_up.opened refl
 
-pub returns-in-Err-clause-spares : goal.returns-in-Err-clause-spares
-returns-in-Err-clause-spares g c = clears_none c.next.ensures.stays.makes refl
-
-pub returns-in-Ok-clause-spares : goal.returns-in-Ok-clause-spares
-returns-in-Ok-clause-spares g c = clears_then (clears_none c.next.ensures.stays.makes refl) c.delete_unless_permanent.ensures.spares
-
-pub returns-in-Err-delete_unless_permanent-clause-spares : goal.returns-in-Err-delete_unless_permanent-clause-spares
-returns-in-Err-delete_unless_permanent-clause-spares g c = clears_then (clears_none c.next.ensures.stays.makes refl) c.delete_unless_permanent.ensures.spares
+pub returns-in-Err-clause-clears : goal.returns-in-Err-clause-clears
+returns-in-Err-clause-clears g c = cleared_asked c.args.self.now _ c.next.ensures.stays c.requires.set_up.opened refl

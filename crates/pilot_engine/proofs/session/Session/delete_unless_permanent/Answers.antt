@@ -1,4 +1,4 @@
-use Rattle.std.proofs.Common.{ap, refl, inr, Option, subst, inl}
+use Rattle.std.proofs.Common.{ap, inr, Option, subst, inl, ◌∙◌, rules, refl}
 use Rattle.std.specs.Prelude.{IfSome}
 use Rattle.file_manager.specs.declared.attributes.Attributes.{Attributes}
 use Rattle.labelled_disk.specs.Label.{leader_page}
@@ -11,7 +11,6 @@ use Rattle.running_words.proofs.SessionLemmas.{session_books}
 use Rattle.pilot_engine.proofs.ShedLemmas.{shed_missing, shed_permanent, shed_deleted, books_now}
 use Rattle.pilot_engine.proofs.WroteLemmas.{wrote_by, wrote_then}
 use Rattle.pilot_engine.proofs.StopLemmas.{stops_deleted, stops_quiet}
-use Rattle.pilot_engine.proofs.CountedHalts.{counted_after}
 use Rattle.fault_core.specs.Core.{state}
 use Rattle.space_calls.proofs.HaltLemmas.{look_reaches}
 use Rattle.labelled_disk.specs.declared.layout.Layout.{Layout}
@@ -24,27 +23,41 @@ use Rattle.pilot_engine.proofs.SeesLemmas.{seen_from, seen_blameless, seen_still
 use Rattle.pilot_engine.proofs.SparedCalls.{all_then, spares_quiet}
 use Rattle.pilot_engine.proofs.SparedFiles.{found_temporary, spares_going, spares_gone}
 use Rattle.file_manager.specs.Attributes.{HasLeader}
-use Rattle.pilot_engine.proofs.WritingLemmas.{clears_none, frees_none, frees_run, only_then}
+use Rattle.pilot_engine.proofs.WritingLemmas.{frees_none, frees_run, only_then}
 use Rattle.file_manager.specs.declared.volume.Volume.{Volume}
+use Rattle.pilot_engine.proofs.FailSteps.{fails_after, fails_wider}
+use Rattle.pilot_engine.proofs.EndSteps.{cleared_asked}
 use Rattle.pilot_engine.proofs.session.Session.delete_unless_permanent.Goals as goal
 
-pub returns-in-Ok-None-clause-shed : goal.returns-in-Ok-None-clause-shed
-returns-in-Ok-None-clause-shed g c = λ spaces_of m s.
+pub returns-in-Ok-None-clause-ends : goal.returns-in-Ok-None-clause-ends
+returns-in-Ok-None-clause-ends g c = λ spaces_of m s.
     let books = session_books spaces_of _ _ _ _ _ m s.session in
     let f = c.attributes_of.ensures in
-    shed_missing spaces_of _ _ _ _ _ _ _ _ _ m s f.stays.makes f.stays.brings ((f.revealed 96 s.session.stands.memory (shapes_of m.files) m.spaces books).1) f.stays.layout c.args.id (subst (IsAttributesOf (shapes_of m.files c.args.id)) c.in-Ok-None.field-0-is ((c.in-Ok-None.ensures.revealed 96 s.session.stands.memory (shapes_of m.files) m.spaces books).0))
+    record {
+      gives = shed_missing spaces_of _ _ _ _ _ _ _ _ _ m s f.stays.makes f.stays.brings ((f.revealed 96 s.session.stands.memory (shapes_of m.files) m.spaces books).1) f.stays.layout c.args.id (subst (IsAttributesOf (shapes_of m.files c.args.id)) c.in-Ok-None.field-0-is ((c.in-Ok-None.ensures.revealed 96 s.session.stands.memory (shapes_of m.files) m.spaces books).0));
+      sound = tt;
+      stops = stops_quiet spaces_of _ _ _ _ m s.session.stands (g.met.D.Disk.in_form (disk_of c.args.self.now.core.filer)) c.attributes_of.ensures.stays.makes;
+    }
 
-pub returns-in-Err-clause-sound : goal.returns-in-Err-clause-sound
-returns-in-Err-clause-sound g c = λ spaces_of m s. (c.in-Err.ensures.revealed 96 s.session.stands.memory (shapes_of m.files) m.spaces (session_books spaces_of _ _ _ _ _ m s.session)).0
+pub returns-in-Err-clause-ends : goal.returns-in-Err-clause-ends
+returns-in-Err-clause-ends g c = λ spaces_of m s. record {
+  gives = tt;
+  sound = (c.in-Err.ensures.revealed 96 s.session.stands.memory (shapes_of m.files) m.spaces (session_books spaces_of _ _ _ _ _ m s.session)).0;
+  stops = stops_quiet spaces_of _ _ _ _ m s.session.stands (g.met.D.Disk.in_form (disk_of c.args.self.now.core.filer)) c.attributes_of.ensures.stays.makes;
+}
 
-pub returns-then-found-clause-shed : goal.returns-then-found-clause-shed
-returns-then-found-clause-shed g c = λ spaces_of m s.
+pub returns-then-found-clause-ends : goal.returns-then-found-clause-ends
+returns-then-found-clause-ends g c = λ spaces_of m s.
     let books = session_books spaces_of _ _ _ _ _ m s.session in
     let f = c.attributes_of.ensures in
-    shed_permanent spaces_of _ _ _ _ _ _ _ _ _ m s f.stays.makes f.stays.brings ((f.revealed 96 s.session.stands.memory (shapes_of m.files) m.spaces books).1) f.stays.layout c.args.id _ (subst (IsAttributesOf (shapes_of m.files c.args.id)) c.in-Ok-Some.field-0-is ((c.in-Ok-Some.ensures.revealed 96 s.session.stands.memory (shapes_of m.files) m.spaces books).0)) c.if-found.true
+    record {
+      gives = shed_permanent spaces_of _ _ _ _ _ _ _ _ _ m s f.stays.makes f.stays.brings ((f.revealed 96 s.session.stands.memory (shapes_of m.files) m.spaces books).1) f.stays.layout c.args.id _ (subst (IsAttributesOf (shapes_of m.files c.args.id)) c.in-Ok-Some.field-0-is ((c.in-Ok-Some.ensures.revealed 96 s.session.stands.memory (shapes_of m.files) m.spaces books).0)) c.if-found.true;
+      sound = tt;
+      stops = stops_quiet spaces_of _ _ _ _ m s.session.stands (g.met.D.Disk.in_form (disk_of c.args.self.now.core.filer)) c.attributes_of.ensures.stays.makes;
+    }
 
-pub returns-in-Ok-clause-shed : goal.returns-in-Ok-clause-shed
-returns-in-Ok-clause-shed g c = λ spaces_of m s.
+pub returns-in-Ok-clause-ends : goal.returns-in-Ok-clause-ends
+returns-in-Ok-clause-ends g c = λ spaces_of m s.
     let x = s.session.stands.memory in
     let books = session_books spaces_of _ _ _ _ _ m s.session in
     let f = c.attributes_of.ensures in
@@ -52,56 +65,59 @@ returns-in-Ok-clause-shed g c = λ spaces_of m s.
     let revealed = subst (IsAttributesOf (shapes_of m.files c.args.id)) c.in-Ok-Some.field-0-is ((c.in-Ok-Some.ensures.revealed 96 x (shapes_of m.files) m.spaces books).0) in
     let now = books_now spaces_of _ _ _ _ _ _ _ _ _ m s f.stays.makes f.stays.brings ((f.revealed 96 x (shapes_of m.files) m.spaces books).1) f.stays.layout c.args.id _ revealed in
     let hidden = none_shown m.spaces s.alone c.args.id in
-    shed_deleted spaces_of _ _ _ _ _ _ _ _ _ m s f.stays.makes f.stays.brings ((f.revealed 96 x (shapes_of m.files) m.spaces books).1) f.stays.layout c.args.id _ revealed _ _ _ _ _ c.if-found.false c.delete.ensures.volume.rest_of_volume
-    (d.deleted x (shapes_of m.files) m.spaces _ now revealed).used c.delete.ensures.stays.layout ((d.deleted x (shapes_of m.files) m.spaces _ now revealed).deleted hidden)
+    record {
+      gives = (shed_deleted spaces_of _ _ _ _ _ _ _ _ _ m s f.stays.makes f.stays.brings ((f.revealed 96 x (shapes_of m.files) m.spaces books).1) f.stays.layout c.args.id _ revealed _ _ _ _ _ c.if-found.false c.delete.ensures.volume.rest_of_volume
+          (d.deleted x (shapes_of m.files) m.spaces _ now revealed).used c.delete.ensures.stays.layout ((d.deleted x (shapes_of m.files) m.spaces _ now revealed).deleted hidden));
+      sound = tt;
+      stops = (let x = s.session.stands.memory in
+          let books = session_books spaces_of _ _ _ _ _ m s.session in
+          let f = c.attributes_of.ensures in
+          let revealed = subst (IsAttributesOf (shapes_of m.files c.args.id)) c.in-Ok-Some.field-0-is ((c.in-Ok-Some.ensures.revealed 96 x (shapes_of m.files) m.spaces books).0) in
+          let now = books_now spaces_of _ _ _ _ _ _ _ _ _ m s f.stays.makes f.stays.brings ((f.revealed 96 x (shapes_of m.files) m.spaces books).1) f.stays.layout c.args.id _ revealed in
+          let hidden = none_shown m.spaces s.alone c.args.id in
+          let d = (c.in-Ok.ensures.deleted x (shapes_of m.files) m.spaces _ now revealed).deleted hidden in
+          stops_deleted spaces_of _ _ _ _ m s.session.stands (g.met.D.Disk.in_form (disk_of c.args.self.now.core.filer)) _ _ c.args.id _ s.alone revealed c.if-found.false f.stays.makes (inr (record { leader = d.leader; sectors = d.sectors; makes = d.leads.goes.makes; stops = d.stops })));
+    }
 
-pub returns-in-Ok-clause-wrote : goal.returns-in-Ok-clause-wrote
-returns-in-Ok-clause-wrote g c = wrote_then (wrote_by c.attributes_of.ensures.stays.makes tt) (wrote_by c.in-Ok.ensures.writes.1.makes (freeing_open c.in-Ok.ensures.writes.1.sectors))
+pub returns-in-Ok-clause-clears : goal.returns-in-Ok-clause-clears
+returns-in-Ok-clause-clears g c = record {
+  wrote = wrote_then (wrote_by c.attributes_of.ensures.stays.makes tt) (wrote_by c.in-Ok.ensures.writes.1.makes (freeing_open c.in-Ok.ensures.writes.1.sectors));
+  spares = (record {
+    spares =
+        all_then (spares_quiet c.attributes_of.ensures.stays.makes) (spares_gone c.args.id (found_temporary (view_of c.attributes_of.new.filer).disk c.args.id c.in-Ok-Some.found.permanent (subst (λ (o : Option Attributes). IfSome o (λ a. HasLeader (view_of c.attributes_of.new.filer).disk c.args.id a.permanent)) c.in-Ok-Some.field-0-is c.in-Ok-Some.ensures.marked) c.if-found.false) c.in-Ok.ensures.writes.1 c.in-Ok.ensures.labels.own);
+    frees = only_then (frees_none c.attributes_of.ensures.stays.makes) (frees_run c.in-Ok.ensures.writes.1.sectors c.in-Ok.ensures.writes.1.makes);
+    root = ap (λ (v : Volume). v.root) c.delete.ensures.volume.rest_of_volume;
+  });
+  open_still = (search rules);
+  layout = c.delete.ensures.stays.layout ∙ c.attributes_of.ensures.stays.layout;
+}
 
-pub returns-in-Err-delete-clause-sound : goal.returns-in-Err-delete-clause-sound
-returns-in-Err-delete-clause-sound g c = λ spaces_of m s.
-    let x = s.session.stands.memory in
-    let books = session_books spaces_of _ _ _ _ _ m s.session in
-    let f = c.attributes_of.ensures in
-    let revealed = subst (IsAttributesOf (shapes_of m.files c.args.id)) c.in-Ok-Some.field-0-is ((c.in-Ok-Some.ensures.revealed 96 x (shapes_of m.files) m.spaces books).0) in
-    let now = books_now spaces_of _ _ _ _ _ _ _ _ _ m s f.stays.makes f.stays.brings ((f.revealed 96 x (shapes_of m.files) m.spaces books).1) f.stays.layout c.args.id _ revealed in
-    ((c.in-Err-delete.ensures.deleted x (shapes_of m.files) m.spaces _ now revealed).deleted (none_shown m.spaces s.alone c.args.id)).0
-
-pub returns-in-Err-delete-clause-wrote : goal.returns-in-Err-delete-clause-wrote
-returns-in-Err-delete-clause-wrote g c = wrote_then (wrote_by c.attributes_of.ensures.stays.makes tt) (wrote_by c.in-Err-delete.ensures.writes.makes (freeing_open c.in-Err-delete.ensures.writes.sectors))
-
-pub returns-in-Ok-None-clause-stops : goal.returns-in-Ok-None-clause-stops
-returns-in-Ok-None-clause-stops g c = λ spaces_of m s. stops_quiet spaces_of _ _ _ _ m s.session.stands (g.met.D.Disk.in_form (disk_of c.args.self.now.core.filer)) c.attributes_of.ensures.stays.makes
-
-pub returns-in-Err-clause-stops : goal.returns-in-Err-clause-stops
-returns-in-Err-clause-stops g c = λ spaces_of m s. stops_quiet spaces_of _ _ _ _ m s.session.stands (g.met.D.Disk.in_form (disk_of c.args.self.now.core.filer)) c.attributes_of.ensures.stays.makes
-
-pub returns-then-found-clause-stops : goal.returns-then-found-clause-stops
-returns-then-found-clause-stops g c = λ spaces_of m s. stops_quiet spaces_of _ _ _ _ m s.session.stands (g.met.D.Disk.in_form (disk_of c.args.self.now.core.filer)) c.attributes_of.ensures.stays.makes
-
-pub returns-in-Ok-clause-stops : goal.returns-in-Ok-clause-stops
-returns-in-Ok-clause-stops g c = λ spaces_of m s.
-    let x = s.session.stands.memory in
-    let books = session_books spaces_of _ _ _ _ _ m s.session in
-    let f = c.attributes_of.ensures in
-    let revealed = subst (IsAttributesOf (shapes_of m.files c.args.id)) c.in-Ok-Some.field-0-is ((c.in-Ok-Some.ensures.revealed 96 x (shapes_of m.files) m.spaces books).0) in
-    let now = books_now spaces_of _ _ _ _ _ _ _ _ _ m s f.stays.makes f.stays.brings ((f.revealed 96 x (shapes_of m.files) m.spaces books).1) f.stays.layout c.args.id _ revealed in
-    let hidden = none_shown m.spaces s.alone c.args.id in
-    let d = (c.in-Ok.ensures.deleted x (shapes_of m.files) m.spaces _ now revealed).deleted hidden in
-    stops_deleted spaces_of _ _ _ _ m s.session.stands (g.met.D.Disk.in_form (disk_of c.args.self.now.core.filer)) _ _ c.args.id _ s.alone revealed c.if-found.false f.stays.makes (inr (record { leader = d.leader; sectors = d.sectors; makes = d.leads.goes.makes; stops = d.stops }))
-
-pub returns-in-Err-delete-clause-stops : goal.returns-in-Err-delete-clause-stops
-returns-in-Err-delete-clause-stops g c = λ spaces_of m s.
+pub returns-in-Err-delete-clause-ends : goal.returns-in-Err-delete-clause-ends
+returns-in-Err-delete-clause-ends g c = λ spaces_of m s.
     let x = s.session.stands.memory in
     let books = session_books spaces_of _ _ _ _ _ m s.session in
     let f = c.attributes_of.ensures in
     let revealed = subst (IsAttributesOf (shapes_of m.files c.args.id)) c.in-Ok-Some.field-0-is ((c.in-Ok-Some.ensures.revealed 96 x (shapes_of m.files) m.spaces books).0) in
     let now = books_now spaces_of _ _ _ _ _ _ _ _ _ m s f.stays.makes f.stays.brings ((f.revealed 96 x (shapes_of m.files) m.spaces books).1) f.stays.layout c.args.id _ revealed in
     let hidden = none_shown m.spaces s.alone c.args.id in
-    stops_deleted spaces_of _ _ _ _ m s.session.stands (g.met.D.Disk.in_form (disk_of c.args.self.now.core.filer)) _ _ c.args.id _ s.alone revealed c.if-found.false f.stays.makes (((c.in-Err-delete.ensures.deleted x (shapes_of m.files) m.spaces _ now revealed).deleted hidden).1)
+    record {
+      gives = tt;
+      sound = ((c.in-Err-delete.ensures.deleted x (shapes_of m.files) m.spaces _ now revealed).deleted (none_shown m.spaces s.alone c.args.id)).0;
+      stops = stops_deleted spaces_of _ _ _ _ m s.session.stands (g.met.D.Disk.in_form (disk_of c.args.self.now.core.filer)) _ _ c.args.id _ s.alone revealed c.if-found.false f.stays.makes (((c.in-Err-delete.ensures.deleted x (shapes_of m.files) m.spaces _ now revealed).deleted hidden).1);
+    }
 
-pub returns-in-Err-delete-clause-counted : goal.returns-in-Err-delete-clause-counted
-returns-in-Err-delete-clause-counted g c = counted_after _ _ _ c.attributes_of.ensures.stays.makes.went.faults c.in-Err-delete.ensures.fails.counted
+pub returns-in-Err-delete-clause-clears : goal.returns-in-Err-delete-clause-clears
+returns-in-Err-delete-clause-clears g c = record {
+  wrote = wrote_then (wrote_by c.attributes_of.ensures.stays.makes tt) (wrote_by c.in-Err-delete.ensures.writes.makes (freeing_open c.in-Err-delete.ensures.writes.sectors));
+  spares = (record {
+    spares =
+        all_then (spares_quiet c.attributes_of.ensures.stays.makes) (spares_going c.args.id (found_temporary (view_of c.attributes_of.new.filer).disk c.args.id c.in-Ok-Some.found.permanent (subst (λ (o : Option Attributes). IfSome o (λ a. HasLeader (view_of c.attributes_of.new.filer).disk c.args.id a.permanent)) c.in-Ok-Some.field-0-is c.in-Ok-Some.ensures.marked) c.if-found.false) c.in-Err-delete.ensures.writes c.in-Err-delete.ensures.labels.own);
+    frees = only_then (frees_none c.attributes_of.ensures.stays.makes) (frees_run c.in-Err-delete.ensures.writes.sectors c.in-Err-delete.ensures.writes.makes);
+    root = ap (λ (v : Volume). v.root) c.delete.ensures.volume.rest_of_volume;
+  });
+  open_still = (search rules);
+  layout = c.delete.ensures.stays.layout ∙ c.attributes_of.ensures.stays.layout;
+}
 
 pub returns-in-Ok-None-clause-cost : goal.returns-in-Ok-None-clause-cost
 returns-in-Ok-None-clause-cost g c = λ spaces_of m f s found. looked_cost (state c.args.self.now.core).disk.transfers (view_of c.attributes_of.new.filer).disk.transfers f c.attributes_of.ensures.cost
@@ -136,11 +152,11 @@ returns-in-Err-delete-clause-cost g c = λ spaces_of m f s found.
 
 -- ---- Why it failed.
 
-pub returns-in-Err-clause-cause : goal.returns-in-Err-clause-cause
-returns-in-Err-clause-cause g c = inl c.in-Err.ensures.fails.cause
+pub returns-in-Err-clause-fails : goal.returns-in-Err-clause-fails
+returns-in-Err-clause-fails g c = fails_wider (λ h. inl h) c.in-Err.ensures.fails
 
-pub returns-in-Err-delete-clause-cause : goal.returns-in-Err-delete-clause-cause
-returns-in-Err-delete-clause-cause g c = inr (state (record c.args.self.now.core { filer = c.attributes_of.new.filer }), look_reaches (state c.args.self.now.core) (state (record c.args.self.now.core { filer = c.attributes_of.new.filer })) c.attributes_of.ensures.stays.looks c.attributes_of.ensures.stays.layout, c.in-Err-delete.ensures.fails.cause)
+pub returns-in-Err-delete-clause-fails : goal.returns-in-Err-delete-clause-fails
+returns-in-Err-delete-clause-fails g c = fails_after c.attributes_of.ensures.stays.makes.went.faults (λ h. inr (state (record c.args.self.now.core { filer = c.attributes_of.new.filer }), look_reaches (state c.args.self.now.core) (state (record c.args.self.now.core { filer = c.attributes_of.new.filer })) c.attributes_of.ensures.stays.looks c.attributes_of.ensures.stays.layout, h)) c.in-Err-delete.ensures.fails
 
 -- ---- What began stays a reason.
 
@@ -177,7 +193,7 @@ returns-in-Ok-clause-accounts g c = λ o k. record {
   reasons = tt;
   sees = (λ seen. let old = c.args.self.now.core in
       seen_from o (state old) (accepted old.filer) k (view_of c.delete.new.filer) (λ b h. c.in-Ok.ensures.accounts (telling o b) k.0 (c.in-Ok-Some.ensures.accounts (telling o b) k.0 h))
-      (file_after o (returns-in-Ok-clause-wrote g c)) seen);
+      (file_after o ((returns-in-Ok-clause-clears g c).wrote)) seen);
 }
 
 pub returns-in-Err-delete-clause-accounts : goal.returns-in-Err-delete-clause-accounts
@@ -189,38 +205,18 @@ returns-in-Err-delete-clause-accounts g c = λ o k. record {
       let disk = (view_of c.delete.new.filer).disk in
       let was = found_file k.1.0 c.args.id _ _ c.in-Ok-Some.field-0-is (λ z0 z1 z2 z3. (c.in-Ok-Some.ensures.named z0 z1 z2 z3).1) in
       end_blameless o disk c.in-Err-delete.halt (seen_blameless o (state old) (accepted old.filer) k (view_of c.attributes_of.new.filer).layout disk c.in-Err-delete.halt (λ b h. c.in-Err-delete.ensures.accounts (telling o b) k.0 (c.in-Ok-Some.ensures.accounts (telling o b) k.0 h))
-      (misses_file (c.in-Ok-Some.ensures.accounts o k.0 k.1.0) disk (file_later o c.in-Err-delete.ensures.writes.makes) c.args.id (file_after o (returns-in-Err-delete-clause-wrote g c) c.args.id leader_page was) c.in-Err-delete.halt
+      (misses_file (c.in-Ok-Some.ensures.accounts o k.0 k.1.0) disk (file_later o c.in-Err-delete.ensures.writes.makes) c.args.id (file_after o ((returns-in-Err-delete-clause-clears g c).wrote) c.args.id leader_page was) c.in-Err-delete.halt
       (remove_misses_own c.args.id (view_of c.attributes_of.new.filer) (view_of c.delete.new.filer) c.in-Err-delete.halt c.in-Err-delete.ensures.fails.cause)) (seen.0, seen.1.0))
       (remove_no_table c.args.id c.requires.client (view_of c.attributes_of.new.filer) (view_of c.delete.new.filer) c.in-Err-delete.halt c.in-Err-delete.ensures.fails.cause));
 }
 
--- ---- What is seen of the space tables, and which page is reported as missing.
-
 -- ---- Which files are spared.
 
-pub returns-in-Ok-None-clause-spares : goal.returns-in-Ok-None-clause-spares
-returns-in-Ok-None-clause-spares g c = clears_none c.attributes_of.ensures.stays.makes refl
+pub returns-in-Ok-None-clause-clears : goal.returns-in-Ok-None-clause-clears
+returns-in-Ok-None-clause-clears g c = cleared_asked c.args.self.now _ c.attributes_of.ensures.stays c.requires.set_up.opened refl
 
-pub returns-in-Err-clause-spares : goal.returns-in-Err-clause-spares
-returns-in-Err-clause-spares g c = clears_none c.attributes_of.ensures.stays.makes refl
+pub returns-in-Err-clause-clears : goal.returns-in-Err-clause-clears
+returns-in-Err-clause-clears g c = cleared_asked c.args.self.now _ c.attributes_of.ensures.stays c.requires.set_up.opened refl
 
-pub returns-then-found-clause-spares : goal.returns-then-found-clause-spares
-returns-then-found-clause-spares g c = clears_none c.attributes_of.ensures.stays.makes refl
-
-pub returns-in-Ok-clause-spares : goal.returns-in-Ok-clause-spares
-returns-in-Ok-clause-spares g c =
-    record {
-      spares =
-          all_then (spares_quiet c.attributes_of.ensures.stays.makes) (spares_gone c.args.id (found_temporary (view_of c.attributes_of.new.filer).disk c.args.id c.in-Ok-Some.found.permanent (subst (λ (o : Option Attributes). IfSome o (λ a. HasLeader (view_of c.attributes_of.new.filer).disk c.args.id a.permanent)) c.in-Ok-Some.field-0-is c.in-Ok-Some.ensures.marked) c.if-found.false) c.in-Ok.ensures.writes.1 c.in-Ok.ensures.labels.own);
-      frees = only_then (frees_none c.attributes_of.ensures.stays.makes) (frees_run c.in-Ok.ensures.writes.1.sectors c.in-Ok.ensures.writes.1.makes);
-      root = ap (λ (v : Volume). v.root) c.delete.ensures.volume.rest_of_volume;
-    }
-
-pub returns-in-Err-delete-clause-spares : goal.returns-in-Err-delete-clause-spares
-returns-in-Err-delete-clause-spares g c =
-    record {
-      spares =
-          all_then (spares_quiet c.attributes_of.ensures.stays.makes) (spares_going c.args.id (found_temporary (view_of c.attributes_of.new.filer).disk c.args.id c.in-Ok-Some.found.permanent (subst (λ (o : Option Attributes). IfSome o (λ a. HasLeader (view_of c.attributes_of.new.filer).disk c.args.id a.permanent)) c.in-Ok-Some.field-0-is c.in-Ok-Some.ensures.marked) c.if-found.false) c.in-Err-delete.ensures.writes c.in-Err-delete.ensures.labels.own);
-      frees = only_then (frees_none c.attributes_of.ensures.stays.makes) (frees_run c.in-Err-delete.ensures.writes.sectors c.in-Err-delete.ensures.writes.makes);
-      root = ap (λ (v : Volume). v.root) c.delete.ensures.volume.rest_of_volume;
-    }
+pub returns-then-found-clause-clears : goal.returns-then-found-clause-clears
+returns-then-found-clause-clears g c = cleared_asked c.args.self.now _ c.attributes_of.ensures.stays c.requires.set_up.opened refl

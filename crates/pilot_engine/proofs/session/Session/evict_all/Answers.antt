@@ -7,23 +7,35 @@ use Rattle.filer_kernel.specs.View.{view_of}
 use Rattle.pilot_engine.specs.Reasons.{SeesHome}
 use Rattle.pilot_engine.proofs.session.Session.evict_all.Goals as goal
 
-pub returns-in-Ok-clause-alone : goal.returns-in-Ok-clause-alone
-returns-in-Ok-clause-alone g c = rw c.look_at_frames.ensures.same at c.in-Ok.ensures.alone
+pub returns-in-Ok-clause-ends : goal.returns-in-Ok-clause-ends
+returns-in-Ok-clause-ends g c = rw c.look_at_frames.ensures.same at c.in-Ok.ensures.ends
 
-pub returns-in-Err-clause-sound : goal.returns-in-Err-clause-sound
-returns-in-Err-clause-sound g c = rw c.look_at_frames.ensures.same at c.in-Err.ensures.sound
+pub returns-in-Err-clause-ends : goal.returns-in-Err-clause-ends
+returns-in-Err-clause-ends g c = rw c.look_at_frames.ensures.same at c.in-Err.ensures.ends
 
-pub returns-in-Ok-clause-stops : goal.returns-in-Ok-clause-stops
-returns-in-Ok-clause-stops g c = rw c.look_at_frames.ensures.same at c.evict_root.ensures.stops
+pub returns-in-Ok-clause-clears : goal.returns-in-Ok-clause-clears
+returns-in-Ok-clause-clears g c = record {
+  wrote = rw c.look_at_frames.ensures.same at c.evict_root.ensures.clears.wrote;
+  spares = (record {
+    spares = rw c.look_at_frames.ensures.same at c.evict_root.ensures.clears.spares.spares;
+    frees = rw c.look_at_frames.ensures.same at c.evict_root.ensures.clears.spares.frees;
+    root = c.evict_root.ensures.clears.spares.root;
+  });
+  open_still = c.evict_root.ensures.clears.open_still;
+  layout = rw c.look_at_frames.ensures.same at c.evict_root.ensures.clears.layout;
+}
 
-pub returns-in-Err-clause-stops : goal.returns-in-Err-clause-stops
-returns-in-Err-clause-stops g c = rw c.look_at_frames.ensures.same at c.evict_root.ensures.stops
-
-pub returns-in-Ok-clause-wrote : goal.returns-in-Ok-clause-wrote
-returns-in-Ok-clause-wrote g c = rw c.look_at_frames.ensures.same at c.evict_root.ensures.wrote
-
-pub returns-in-Err-clause-wrote : goal.returns-in-Err-clause-wrote
-returns-in-Err-clause-wrote g c = rw c.look_at_frames.ensures.same at c.evict_root.ensures.wrote
+pub returns-in-Err-clause-clears : goal.returns-in-Err-clause-clears
+returns-in-Err-clause-clears g c = record {
+  wrote = rw c.look_at_frames.ensures.same at c.evict_root.ensures.clears.wrote;
+  spares = (record {
+    spares = rw c.look_at_frames.ensures.same at c.evict_root.ensures.clears.spares.spares;
+    frees = rw c.look_at_frames.ensures.same at c.evict_root.ensures.clears.spares.frees;
+    root = c.evict_root.ensures.clears.spares.root;
+  });
+  open_still = c.evict_root.ensures.clears.open_still;
+  layout = rw c.look_at_frames.ensures.same at c.evict_root.ensures.clears.layout;
+}
 
 pub returns-in-Ok-clause-cost : goal.returns-in-Ok-clause-cost
 returns-in-Ok-clause-cost g c = few_gone _ _ _ c.look_at_frames.ensures.few (rw c.look_at_frames.ensures.same at c.evict_root.ensures.cost)
@@ -33,8 +45,8 @@ returns-in-Err-clause-cost g c = few_gone _ _ _ c.look_at_frames.ensures.few (rw
 
 -- ---- Why it failed.
 
-pub returns-in-Err-clause-cause : goal.returns-in-Err-clause-cause
-returns-in-Err-clause-cause g c = rw c.look_at_frames.ensures.same at c.in-Err.ensures.cause
+pub returns-in-Err-clause-fails : goal.returns-in-Err-clause-fails
+returns-in-Err-clause-fails g c = rw c.look_at_frames.ensures.same at c.in-Err.ensures.fails
 
 -- ---- What began stays a reason.
 
@@ -55,21 +67,3 @@ returns-in-Err-clause-accounts g c = λ o k.
       reasons = subst (λ (f : Filer g.row.D.Denot g.row.A.Denot g.D.Disk). ShowsReason o (view_of f).layout (state c.evict_root.new.self.core).disk c.in-Err.halt) c.look_at_frames.ensures.same there.reasons;
       sees = λ seen. there.sees (subst (λ (f : Filer g.row.D.Denot g.row.A.Denot g.D.Disk). SeesHome o (record c.args.self.now.core { filer = f })) (sym c.look_at_frames.ensures.same) seen);
     }
-
--- ---- The space tables are seen.
-
--- ---- Which files are spared.
-
-pub returns-in-Ok-clause-spares : goal.returns-in-Ok-clause-spares
-returns-in-Ok-clause-spares g c = record {
-  spares = rw c.look_at_frames.ensures.same at c.evict_root.ensures.spares.spares;
-  frees = rw c.look_at_frames.ensures.same at c.evict_root.ensures.spares.frees;
-  root = c.evict_root.ensures.spares.root;
-}
-
-pub returns-in-Err-clause-spares : goal.returns-in-Err-clause-spares
-returns-in-Err-clause-spares g c = record {
-  spares = rw c.look_at_frames.ensures.same at c.evict_root.ensures.spares.spares;
-  frees = rw c.look_at_frames.ensures.same at c.evict_root.ensures.spares.frees;
-  root = c.evict_root.ensures.spares.root;
-}

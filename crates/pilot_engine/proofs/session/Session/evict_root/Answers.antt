@@ -17,45 +17,50 @@ use Rattle.fault_core.specs.Kill.{BreaksWithin}
 use Rattle.fault_core.specs.ReachLaws.{reach_misses}
 use Rattle.pilot_engine.proofs.HomeLemmas.{file_pages, files_later}
 use Rattle.pilot_engine.proofs.WritingLemmas.{clears_none}
+use Rattle.pilot_engine.specs.Halting.{EvictHalts}
 use Rattle.pilot_engine.proofs.session.Session.evict_root.Goals as goal
 use Rattle.filer_kernel.specs.View.{accepted, disk_of, swapper_of}
 
-pub returns-in-Ok-clause-alone : goal.returns-in-Ok-clause-alone
-returns-in-Ok-clause-alone g c = λ m r.
+pub returns-in-Ok-clause-ends : goal.returns-in-Ok-clause-ends
+returns-in-Ok-clause-ends g c = λ m r.
     let old = c.args.self.now.core in
     let new = c.evict.new.self in
-    let whole : IsWhole (state old) = record { layout = (accepted old.filer); size = c.requires.size } in
+    let whole : IsWhole (state old) = record { layout = (accepted old.filer); size = c.requires.set_up.size } in
     let revealed = revealed_there running_laws (state old) (state new) (kept old) (kept new) old.intervals new.intervals c.args.self.now.volume m whole r in
     let x = r.session.stands.memory in
     let named = r.session.stands.is.named in
-    evict_alone running_laws (state old) (state new) (kept old) (kept new) old.intervals new.intervals c.args.self.now.volume m whole r c.evict.ensures.brings.reaches c.evict.ensures.brings.came c.evict.ensures.stays.intervals
-    (c.evict.ensures.stays.same x named m.spaces revealed) (c.in-Ok.ensures.gone x named m.spaces revealed)
+    record {
+      gives = (evict_alone running_laws (state old) (state new) (kept old) (kept new) old.intervals new.intervals c.args.self.now.volume m whole r c.evict.ensures.brings.reaches c.evict.ensures.brings.came c.evict.ensures.stays.intervals
+          (c.evict.ensures.stays.same x named m.spaces revealed) (c.in-Ok.ensures.gone x named m.spaces revealed));
+      sound = tt;
+      stops = stops_quiet (exactly r.pages m.spaces) _ _ _ _ m r.session.stands (g.met.D.Disk.in_form (disk_of c.args.self.now.core.filer)) (own_makes c.evict.ensures.brings.reaches.goes.makes);
+    }
 
-pub returns-in-Err-clause-sound : goal.returns-in-Err-clause-sound
-returns-in-Err-clause-sound g c = λ m r.
+pub returns-in-Err-clause-ends : goal.returns-in-Err-clause-ends
+returns-in-Err-clause-ends g c = λ m r.
     let old = c.args.self.now.core in
-    let whole : IsWhole (state old) = record { layout = (accepted old.filer); size = c.requires.size } in
-    c.in-Err.ensures.fails.sound r.session.stands.memory r.session.stands.is.named m.spaces (running_laws.known (state old) (kept old) old.intervals c.args.self.now.volume m whole r)
+    let whole : IsWhole (state old) = record { layout = (accepted old.filer); size = c.requires.set_up.size } in
+    record {
+      gives = tt;
+      sound = c.in-Err.ensures.fails.sound r.session.stands.memory r.session.stands.is.named m.spaces (running_laws.known (state old) (kept old) old.intervals c.args.self.now.volume m whole r);
+      stops = stops_quiet (exactly r.pages m.spaces) _ _ _ _ m r.session.stands (g.met.D.Disk.in_form (disk_of c.args.self.now.core.filer)) (own_makes c.evict.ensures.brings.reaches.goes.makes);
+    }
 
-pub returns-in-Ok-clause-stops : goal.returns-in-Ok-clause-stops
-returns-in-Ok-clause-stops g c = λ m r.
-    stops_quiet (exactly r.pages m.spaces) _ _ _ _ m r.session.stands (g.met.D.Disk.in_form (disk_of c.args.self.now.core.filer)) (own_makes c.evict.ensures.brings.reaches.goes.makes)
+pub returns-in-Ok-clause-clears : goal.returns-in-Ok-clause-clears
+returns-in-Ok-clause-clears g c = record {
+  wrote = wrote_by (own_makes c.evict.ensures.brings.reaches.goes.makes) tt;
+  spares = clears_none (own_makes c.evict.ensures.brings.reaches.goes.makes) refl;
+  open_still = subst (λ (l : Layout). IsOpen l c.args.self.now.volume) (sym c.evict.ensures.brings.reaches.layout) c.requires.set_up.opened;
+  layout = c.evict.ensures.brings.reaches.layout;
+}
 
-pub returns-in-Err-clause-stops : goal.returns-in-Err-clause-stops
-returns-in-Err-clause-stops g c = λ m r.
-    stops_quiet (exactly r.pages m.spaces) _ _ _ _ m r.session.stands (g.met.D.Disk.in_form (disk_of c.args.self.now.core.filer)) (own_makes c.evict.ensures.brings.reaches.goes.makes)
-
-pub returns-in-Ok-clause-wrote : goal.returns-in-Ok-clause-wrote
-returns-in-Ok-clause-wrote g c = wrote_by (own_makes c.evict.ensures.brings.reaches.goes.makes) tt
-
-pub returns-in-Err-clause-wrote : goal.returns-in-Err-clause-wrote
-returns-in-Err-clause-wrote g c = wrote_by (own_makes c.evict.ensures.brings.reaches.goes.makes) tt
-
-pub returns-in-Ok-clause-open_still : goal.returns-in-Ok-clause-open_still
-returns-in-Ok-clause-open_still g c = subst (λ (l : Layout). IsOpen l c.args.self.now.volume) (sym c.evict.ensures.brings.reaches.layout) c.requires.opened
-
-pub returns-in-Err-clause-open_still : goal.returns-in-Err-clause-open_still
-returns-in-Err-clause-open_still g c = subst (λ (l : Layout). IsOpen l c.args.self.now.volume) (sym c.evict.ensures.brings.reaches.layout) c.requires.opened
+pub returns-in-Err-clause-clears : goal.returns-in-Err-clause-clears
+returns-in-Err-clause-clears g c = record {
+  wrote = wrote_by (own_makes c.evict.ensures.brings.reaches.goes.makes) tt;
+  spares = clears_none (own_makes c.evict.ensures.brings.reaches.goes.makes) refl;
+  open_still = subst (λ (l : Layout). IsOpen l c.args.self.now.volume) (sym c.evict.ensures.brings.reaches.layout) c.requires.set_up.opened;
+  layout = c.evict.ensures.brings.reaches.layout;
+}
 
 pub returns-in-Ok-clause-cost : goal.returns-in-Ok-clause-cost
 returns-in-Ok-clause-cost g c =
@@ -64,9 +69,6 @@ returns-in-Ok-clause-cost g c =
 pub returns-in-Err-clause-cost : goal.returns-in-Err-clause-cost
 returns-in-Err-clause-cost g c =
     gone_cost c.args.self.now.core.intervals (length (state c.args.self.now.core).slots) (state c.args.self.now.core).disk.transfers (state c.evict.new.self).disk.transfers c.args.self.now.core.few c.evict.ensures.cost
-
-pub returns-in-Err-clause-evidence_seen : goal.returns-in-Err-clause-evidence_seen
-returns-in-Err-clause-evidence_seen g c = shows_evidence _ (state c.args.self.now.core) (state c.evict.new.self) (fits (swapper_of c.args.self.now.core.filer) c.requires.size) c.evict.ensures.brings.reaches.goes.makes c.in-Err.halt c.in-Err.ensures.fails.cause
 
 -- ---- What began stays a reason.
 
@@ -89,12 +91,12 @@ returns-in-Err-clause-accounts g c = λ o k. record {
       (c.in-Err.ensures.fails.right seen.0 seen.1.0, reach_misses (BreaksWithin v old.intervals 0 root_pages) v (state new) (file_pages o (state new).disk) c.in-Err.halt c.in-Err.ensures.fails.cause));
 }
 
--- ---- What is seen of the space tables, and which page is reported as missing.
-
 -- ---- Which files are spared.
 
-pub returns-in-Ok-clause-spares : goal.returns-in-Ok-clause-spares
-returns-in-Ok-clause-spares g c = clears_none (own_makes c.evict.ensures.brings.reaches.goes.makes) refl
-
-pub returns-in-Err-clause-spares : goal.returns-in-Err-clause-spares
-returns-in-Err-clause-spares g c = clears_none (own_makes c.evict.ensures.brings.reaches.goes.makes) refl
+pub returns-in-Err-clause-fails : goal.returns-in-Err-clause-fails
+returns-in-Err-clause-fails g c =
+    record {
+      cause = c.in-Err.ensures.fails.cause;
+      counted = λ is. subst (EvictHalts c.args.self.now.core.intervals (state c.args.self.now.core) (state c.evict.new.self)) is c.in-Err.ensures.fails.cause;
+      evidence_seen = shows_evidence _ (state c.args.self.now.core) (state c.evict.new.self) (fits (swapper_of c.args.self.now.core.filer) c.requires.set_up.size) c.evict.ensures.brings.reaches.goes.makes c.in-Err.halt c.in-Err.ensures.fails.cause;
+    }

@@ -26,7 +26,7 @@ returns-in-Err-begin-clause-sound g c = λ d revealed count.
     let contents = (rw c.in-Ok.ensures.disk at c.in-Ok-make_volume.ensures.made).contents d revealed in
     let root = rw c.in-Ok.ensures.disk at c.in-Ok-make_volume.ensures.root in
     fresh_volume (λ m. c.in-Err-begin.halt ≡ halt.Disk) (g.D.Disk.state c.args.disk) (view_of c.make_volume.new.filer).disk d c.in-Ok-make_volume.root long c.in-Ok.ensures.count root contents
-    c.in-Err-begin.ensures.sound
+    c.in-Err-begin.ensures.begun
 
 -- ---- What was written.
 
@@ -40,7 +40,7 @@ returns-in-Ok-begin-clause-wrote g c =
     let given = c.in-Ok-make_volume.ensures in
     let root = rw c.in-Ok.ensures.disk at given.root in
     let volume = rw c.in-Ok.ensures.disk at given.made in
-    let bare : IsBare (view_of c.make_volume.new.filer).slots = rw given.frames c.in-Ok.ensures.bare in
+    let bare : IsBare (view_of c.make_volume.new.filer).slots = rw given.stays.frames c.in-Ok.ensures.blank.bare in
     rw c.over.ensures.filer (wrote_on_new volume c.in-Ok-make_volume.root root bare c.in-Ok-begin.ensures.starts)
 
 pub returns-in-Err-begin-clause-wrote : goal.returns-in-Err-begin-clause-wrote
@@ -48,7 +48,7 @@ returns-in-Err-begin-clause-wrote g c =
     let given = c.in-Ok-make_volume.ensures in
     let root = rw c.in-Ok.ensures.disk at given.root in
     let volume = rw c.in-Ok.ensures.disk at given.made in
-    let bare : IsBare (view_of c.make_volume.new.filer).slots = rw given.frames c.in-Ok.ensures.bare in
+    let bare : IsBare (view_of c.make_volume.new.filer).slots = rw given.stays.frames c.in-Ok.ensures.blank.bare in
     rw c.into_disk-in-Err-begin.ensures (inr (wrote_on_new volume c.in-Ok-make_volume.root root bare c.in-Err-begin.ensures.starts))
 
 -- ---- What stands in each crash state.
@@ -63,7 +63,7 @@ returns-in-Ok-begin-clause-crash_states g c = λ d revealed.
     let given = c.in-Ok-make_volume.ensures in
     let root = rw c.in-Ok.ensures.disk at given.root in
     let volume = rw c.in-Ok.ensures.disk at given.made in
-    let bare : IsBare (view_of c.make_volume.new.filer).slots = rw given.frames c.in-Ok.ensures.bare in
+    let bare : IsBare (view_of c.make_volume.new.filer).slots = rw given.stays.frames c.in-Ok.ensures.blank.bare in
     rw c.over.ensures.filer (keeps_new d (g.met.D.Disk.whole c.args.disk d revealed) c.in-Ok.ensures.count revealed volume c.in-Ok-make_volume.root root bare c.in-Ok-begin.ensures.starts)
 
 pub returns-in-Err-begin-clause-crash_states : goal.returns-in-Err-begin-clause-crash_states
@@ -71,7 +71,7 @@ returns-in-Err-begin-clause-crash_states g c = λ d revealed.
     let given = c.in-Ok-make_volume.ensures in
     let root = rw c.in-Ok.ensures.disk at given.root in
     let volume = rw c.in-Ok.ensures.disk at given.made in
-    let bare : IsBare (view_of c.make_volume.new.filer).slots = rw given.frames c.in-Ok.ensures.bare in
+    let bare : IsBare (view_of c.make_volume.new.filer).slots = rw given.stays.frames c.in-Ok.ensures.blank.bare in
     rw c.into_disk-in-Err-begin.ensures (inr (keeps_new d (g.met.D.Disk.whole c.args.disk d revealed) c.in-Ok.ensures.count revealed volume c.in-Ok-make_volume.root root bare c.in-Err-begin.ensures.starts))
 
 -- ---- Why it failed.
@@ -79,18 +79,18 @@ returns-in-Err-begin-clause-crash_states g c = λ d revealed.
 pub returns-in-Err-make_volume-clause-cause : goal.returns-in-Err-make_volume-clause-cause
 returns-in-Err-make_volume-clause-cause g c =
     let given = c.in-Err-make_volume.ensures in
-    let rose = rw c.in-Ok.ensures.disk at given.counted in
+    let rose = rw c.in-Ok.ensures.disk at given.fault.1 in
     let part = rw c.in-Ok.ensures.disk at given.part in
-    rw c.into_disk.ensures (inl (given.fault, rose, part))
+    rw c.into_disk.ensures (inl (given.fault.0, rose, part))
 
 pub returns-in-Err-begin-clause-cause : goal.returns-in-Err-begin-clause-cause
 returns-in-Err-begin-clause-cause g c =
     let given = c.in-Ok-make_volume.ensures in
     let root = rw c.in-Ok.ensures.disk at given.root in
     let volume = rw c.in-Ok.ensures.disk at given.made in
-    let bare : IsBare (view_of c.make_volume.new.filer).slots = rw given.frames c.in-Ok.ensures.bare in
-    let same : (view_of c.make_volume.new.filer).layout.sectors ≡ (g.D.Disk.state c.args.disk).sectors = ap (λ (l : Layout). l.sectors) given.layout ∙ sym (rw c.in-Ok.ensures.disk at c.in-Ok.ensures.size) in
-    let runs : (n : ℕ) → runs_of n c.make_volume.new.filer.runs ≡ [] = rw given.runs c.in-Ok.ensures.no_runs in
+    let bare : IsBare (view_of c.make_volume.new.filer).slots = rw given.stays.frames c.in-Ok.ensures.blank.bare in
+    let same : (view_of c.make_volume.new.filer).layout.sectors ≡ (g.D.Disk.state c.args.disk).sectors = ap (λ (l : Layout). l.sectors) given.stays.layout ∙ sym (rw c.in-Ok.ensures.disk at c.in-Ok.ensures.blank.size) in
+    let runs : (n : ℕ) → runs_of n c.make_volume.new.filer.runs ≡ [] = rw given.stays.runs c.in-Ok.ensures.blank.no_runs in
     rw c.into_disk-in-Err-begin.ensures (inr (record {
       before = view_of c.make_volume.new.filer;
       volume = volume;
@@ -99,5 +99,5 @@ returns-in-Err-begin-clause-cause g c =
       no_runs = runs (view_of c.make_volume.new.filer).layout.sectors;
       after = view_of c.begin.new.filer;
       left = refl;
-      halts = rw root at c.in-Err-begin.ensures.cause;
+      halts = rw root at c.in-Err-begin.ensures.fails.cause;
     }))

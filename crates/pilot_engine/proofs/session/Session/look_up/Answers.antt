@@ -54,7 +54,7 @@ returns g c =
         few = λ one. absurd (true≢false (sym one));
         room = λ one. absurd (true≢false (sym one));
         stay = λ one. absurd (true≢false (sym one));
-        stays = record { open_still = still_open _ _ _ _ c.requires.opened did.went.moves.layout refl; monotone = omega arith; serial = refl; layout = did.went.moves.layout };
+        stays = record { open_still = still_open _ _ _ _ c.requires.set_up.opened did.went.moves.layout refl; monotone = omega arith; serial = refl; layout = did.went.moves.layout };
       });
       labels = labels_quiet (call.Activate space) c.args.self.now later c.replied.result refl did.went.moves.goes.makes;
       running = refl;

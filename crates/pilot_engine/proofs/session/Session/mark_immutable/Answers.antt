@@ -1,4 +1,4 @@
-use Rattle.std.proofs.Common.{Option, refl, subst, inl, inr, false, true}
+use Rattle.std.proofs.Common.{Option, refl, subst, inl, inr, false, true, ◌∙◌}
 use Rattle.labelled_disk.specs.Label.{leader_page}
 use Rattle.session_words.specs.Volume.{volume_page}
 use Rattle.swapper_kernel.specs.GoesLaws.{makes_nothing}
@@ -17,7 +17,7 @@ use Rattle.space_calls.proofs.HaltLemmas.{look_reaches}
 use Rattle.pilot_engine.proofs.ReasonSteps.{shows_since}
 use Rattle.file_manager.specs.Reasons.{telling}
 use Rattle.filer_kernel.specs.View.{accepted, disk_of, view_of}
-use Rattle.pilot_engine.proofs.HomeLemmas.{file_after, file_later, file_pages, found_file, misses_file}
+use Rattle.pilot_engine.proofs.HomeLemmas.{file_after, file_pages, found_file, misses_file}
 use Rattle.pilot_engine.proofs.LackLemmas.{look_misses, mark_misses_own}
 use Rattle.pilot_engine.proofs.SeesLemmas.{seen_blameless, seen_still}
 use Rattle.pilot_engine.proofs.SparedCalls.{all_but, but_then, spares_quiet}
@@ -26,44 +26,51 @@ use Rattle.label_calls.specs.SyncedLaws.{around_after, quiet_synced, syncs_aroun
 use Rattle.pilot_engine.proofs.OwnLemmas.{marked_synced}
 use Rattle.pilot_engine.proofs.SeesLemmas.{same_still}
 use Rattle.swapper_kernel.specs.HaltLaws.{brings_then}
+use Rattle.pilot_engine.proofs.FailSteps.{fails_after, fails_wider}
+use Rattle.pilot_engine.proofs.AskedSteps.{accounts_found, asked_writes, remains_files}
 use Rattle.pilot_engine.proofs.session.Session.mark_immutable.Goals as goal
 
-pub returns-in-Ok-None-clause-carried : goal.returns-in-Ok-None-clause-carried
-returns-in-Ok-None-clause-carried g c = λ spaces_of m s named unwritten.
+pub returns-in-Ok-None-clause-answers : goal.returns-in-Ok-None-clause-answers
+returns-in-Ok-None-clause-answers g c = λ spaces_of m s named unwritten.
     let books = session_books spaces_of _ _ _ _ _ m s in
     let revealed = subst (λ (o : Option Attributes). IsAttributesOf (shapes_of m.files c.args.id) o) c.in-Ok-None.field-0-is ((c.in-Ok-None.ensures.revealed 96 s.stands.memory (shapes_of m.files) m.spaces books).0) in
-    missing_after spaces_of _ _ _ _ _ _ _ _ _ m s c.attributes_of.ensures.stays.makes c.attributes_of.ensures.stays.brings ((c.attributes_of.ensures.revealed 96 s.stands.memory (shapes_of m.files) m.spaces books).1) c.attributes_of.ensures.stays.layout
-    c.args.id revealed (call.MakeImmutable c.args.id) (λ none. immutable_gone m c.args.id (no_file_missing m c.args.id none))
-
-pub returns-in-Ok-None-clause-passes : goal.returns-in-Ok-None-clause-passes
-returns-in-Ok-None-clause-passes g c = λ spaces_of m s named unwritten. no_step spaces_of _ _ _ _ m (call.MakeImmutable c.args.id) s.stands c.attributes_of.ensures.stays.makes (g.met.D.Disk.in_form (disk_of c.args.self.now.core.filer))
+    record {
+      carried = (missing_after spaces_of _ _ _ _ _ _ _ _ _ m s c.attributes_of.ensures.stays.makes c.attributes_of.ensures.stays.brings ((c.attributes_of.ensures.revealed 96 s.stands.memory (shapes_of m.files) m.spaces books).1) c.attributes_of.ensures.stays.layout
+          c.args.id revealed (call.MakeImmutable c.args.id) (λ none. immutable_gone m c.args.id (no_file_missing m c.args.id none)));
+      passes = no_step spaces_of _ _ _ _ m (call.MakeImmutable c.args.id) s.stands c.attributes_of.ensures.stays.makes (g.met.D.Disk.in_form (disk_of c.args.self.now.core.filer));
+      came = c.attributes_of.ensures.stays.brings;
+    }
 
 pub returns-in-Err-clause-sound : goal.returns-in-Err-clause-sound
 returns-in-Err-clause-sound g c = λ spaces_of m s. (c.in-Err.ensures.revealed 96 s.stands.memory (shapes_of m.files) m.spaces (session_books spaces_of _ _ _ _ _ m s)).0
 
-pub returns-in-Err-clause-passes : goal.returns-in-Err-clause-passes
-returns-in-Err-clause-passes g c = λ spaces_of m s named unwritten. no_step spaces_of _ _ _ _ m (call.MakeImmutable c.args.id) s.stands c.attributes_of.ensures.stays.makes (g.met.D.Disk.in_form (disk_of c.args.self.now.core.filer))
+pub returns-in-Err-clause-answers : goal.returns-in-Err-clause-answers
+returns-in-Err-clause-answers g c = λ spaces_of m s named unwritten. record {
+  carried = tt;
+  passes = no_step spaces_of _ _ _ _ m (call.MakeImmutable c.args.id) s.stands c.attributes_of.ensures.stays.makes (g.met.D.Disk.in_form (disk_of c.args.self.now.core.filer));
+  came = tt;
+}
 
-pub returns-in-Ok-clause-carried : goal.returns-in-Ok-clause-carried
-returns-in-Ok-clause-carried g c = λ spaces_of m s named unwritten.
+pub returns-in-Ok-clause-answers : goal.returns-in-Ok-clause-answers
+returns-in-Ok-clause-answers g c = λ spaces_of m s named unwritten.
     let books = session_books spaces_of _ _ _ _ _ m s in
     let revealed = subst (λ (o : Option Attributes). IsAttributesOf (shapes_of m.files c.args.id) o) c.in-Ok-Some.field-0-is ((c.in-Ok-Some.ensures.revealed 96 s.stands.memory (shapes_of m.files) m.spaces books).0) in
     let mid = (c.attributes_of.ensures.revealed 96 s.stands.memory (shapes_of m.files) m.spaces books).1 in
     let marked = c.in-Ok.ensures.revealed 96 s.stands.memory (shapes_of m.files) m.spaces _ (books_at _ _ _ _ _ _ _ _ mid c.attributes_of.ensures.stays.layout) revealed (leader_hidden spaces_of _ _ m s.stands c.args.id) in
-    carries_at spaces_of m (call.MakeImmutable c.args.id) _ _ _ _ _ _ _
-    (immutable_done spaces_of _ _ _ _ _ _ _ _ _ m s c.attributes_of.ensures.stays.makes c.attributes_of.ensures.stays.brings mid c.attributes_of.ensures.stays.layout _ _ _ _ refl c.args.id _ revealed (let f = file_revealed m c.args.id _ revealed in immutable_free m c.args.id f.0 f.1 named unwritten) marked) c.make_immutable.ensures.stays.layout
+    record {
+      carried = (carries_at spaces_of m (call.MakeImmutable c.args.id) _ _ _ _ _ _ _
+          (immutable_done spaces_of _ _ _ _ _ _ _ _ _ m s c.attributes_of.ensures.stays.makes c.attributes_of.ensures.stays.brings mid c.attributes_of.ensures.stays.layout _ _ _ _ refl c.args.id _ revealed (let f = file_revealed m c.args.id _ revealed in immutable_free m c.args.id f.0 f.1 named unwritten) marked) c.make_immutable.ensures.stays.layout);
+      passes = (immutable_passed spaces_of _ _ _ _ _ _ _ _ c.args.self.now.volume m s c.attributes_of.ensures.stays.makes c.attributes_of.ensures.stays.brings mid c.attributes_of.ensures.stays.layout _ _ _ c.args.self.now.volume refl c.args.id _ revealed (let f = file_revealed m c.args.id _ revealed in immutable_free m c.args.id f.0 f.1 named unwritten)
+          (g.met.D.Disk.in_form (disk_of c.args.self.now.core.filer)) marked);
+      came = brings_then c.attributes_of.ensures.stays.brings (c.in-Ok.ensures.revealed 96 s.stands.memory (shapes_of m.files) m.spaces _ (books_at _ _ _ _ _ _ _ _ mid c.attributes_of.ensures.stays.layout) revealed (leader_hidden spaces_of _ _ m s.stands c.args.id)).leads.brings;
+    }
 
-pub returns-in-Ok-clause-passes : goal.returns-in-Ok-clause-passes
-returns-in-Ok-clause-passes g c = λ spaces_of m s named unwritten.
-    let books = session_books spaces_of _ _ _ _ _ m s in
-    let revealed = subst (λ (o : Option Attributes). IsAttributesOf (shapes_of m.files c.args.id) o) c.in-Ok-Some.field-0-is ((c.in-Ok-Some.ensures.revealed 96 s.stands.memory (shapes_of m.files) m.spaces books).0) in
-    let mid = (c.attributes_of.ensures.revealed 96 s.stands.memory (shapes_of m.files) m.spaces books).1 in
-    let marked = c.in-Ok.ensures.revealed 96 s.stands.memory (shapes_of m.files) m.spaces _ (books_at _ _ _ _ _ _ _ _ mid c.attributes_of.ensures.stays.layout) revealed (leader_hidden spaces_of _ _ m s.stands c.args.id) in
-    immutable_passed spaces_of _ _ _ _ _ _ _ _ c.args.self.now.volume m s c.attributes_of.ensures.stays.makes c.attributes_of.ensures.stays.brings mid c.attributes_of.ensures.stays.layout _ _ _ c.args.self.now.volume refl c.args.id _ revealed (let f = file_revealed m c.args.id _ revealed in immutable_free m c.args.id f.0 f.1 named unwritten)
-    (g.met.D.Disk.in_form (disk_of c.args.self.now.core.filer)) marked
-
-pub returns-in-Ok-clause-wrote : goal.returns-in-Ok-clause-wrote
-returns-in-Ok-clause-wrote g c = mark_wrote Immutable c.attributes_of.ensures.stays.makes c.make_immutable.ensures.makes
+pub returns-in-Ok-clause-writes : goal.returns-in-Ok-clause-writes
+returns-in-Ok-clause-writes g c = record {
+  wrote = mark_wrote Immutable c.attributes_of.ensures.stays.makes c.make_immutable.ensures.makes;
+  own = only_then (only_quiet (call.MakeImmutable c.args.id) c.attributes_of.ensures.stays.makes) (only_immutable c.args.id c.make_immutable.ensures.makes c.make_immutable.ensures.labels.own);
+  spares = but_then (all_but (spares_quiet c.attributes_of.ensures.stays.makes)) (spares_marked c.args.id Immutable c.make_immutable.ensures.makes c.make_immutable.ensures.labels.own);
+}
 
 pub returns-in-Err-make_immutable-clause-sound : goal.returns-in-Err-make_immutable-clause-sound
 returns-in-Err-make_immutable-clause-sound g c = λ spaces_of m s.
@@ -72,47 +79,44 @@ returns-in-Err-make_immutable-clause-sound g c = λ spaces_of m s.
     let mid = (c.attributes_of.ensures.revealed 96 s.stands.memory (shapes_of m.files) m.spaces books).1 in
     (c.in-Err-make_immutable.ensures.revealed 96 s.stands.memory (shapes_of m.files) m.spaces _ (books_at _ _ _ _ _ _ _ _ mid c.attributes_of.ensures.stays.layout) revealed).0
 
-pub returns-in-Err-make_immutable-clause-wrote : goal.returns-in-Err-make_immutable-clause-wrote
-returns-in-Err-make_immutable-clause-wrote g c = mark_wrote Immutable c.attributes_of.ensures.stays.makes c.make_immutable.ensures.makes
+pub returns-in-Err-make_immutable-clause-writes : goal.returns-in-Err-make_immutable-clause-writes
+returns-in-Err-make_immutable-clause-writes g c = record {
+  wrote = mark_wrote Immutable c.attributes_of.ensures.stays.makes c.make_immutable.ensures.makes;
+  own = only_then (only_quiet (call.MakeImmutable c.args.id) c.attributes_of.ensures.stays.makes) (only_immutable c.args.id c.make_immutable.ensures.makes c.make_immutable.ensures.labels.own);
+  spares = but_then (all_but (spares_quiet c.attributes_of.ensures.stays.makes)) (spares_marked c.args.id Immutable c.make_immutable.ensures.makes c.make_immutable.ensures.labels.own);
+}
 
-pub returns-in-Err-make_immutable-clause-passes : goal.returns-in-Err-make_immutable-clause-passes
-returns-in-Err-make_immutable-clause-passes g c = λ spaces_of m s named unwritten.
+pub returns-in-Err-make_immutable-clause-answers : goal.returns-in-Err-make_immutable-clause-answers
+returns-in-Err-make_immutable-clause-answers g c = λ spaces_of m s named unwritten.
     let books = session_books spaces_of _ _ _ _ _ m s in
     let revealed = subst (λ (o : Option Attributes). IsAttributesOf (shapes_of m.files c.args.id) o) c.in-Ok-Some.field-0-is ((c.in-Ok-Some.ensures.revealed 96 s.stands.memory (shapes_of m.files) m.spaces books).0) in
     let mid = (c.attributes_of.ensures.revealed 96 s.stands.memory (shapes_of m.files) m.spaces books).1 in
     let broken = (c.in-Err-make_immutable.ensures.revealed 96 s.stands.memory (shapes_of m.files) m.spaces _ (books_at _ _ _ _ _ _ _ _ mid c.attributes_of.ensures.stays.layout) revealed).1 in
-    immutable_broken spaces_of _ _ _ _ _ _ _ _ c.args.self.now.volume m s c.attributes_of.ensures.stays.makes c.attributes_of.ensures.stays.brings mid c.attributes_of.ensures.stays.layout _ _ c.args.self.now.core.filer.runs c.args.self.now.volume refl c.args.id _ revealed (let f = file_revealed m c.args.id _ revealed in immutable_free m c.args.id f.0 f.1 named unwritten)
-    (g.met.D.Disk.in_form (disk_of c.args.self.now.core.filer)) broken
+    record {
+      carried = tt;
+      passes = (immutable_broken spaces_of _ _ _ _ _ _ _ _ c.args.self.now.volume m s c.attributes_of.ensures.stays.makes c.attributes_of.ensures.stays.brings mid c.attributes_of.ensures.stays.layout _ _ c.args.self.now.core.filer.runs c.args.self.now.volume refl c.args.id _ revealed (let f = file_revealed m c.args.id _ revealed in immutable_free m c.args.id f.0 f.1 named unwritten)
+          (g.met.D.Disk.in_form (disk_of c.args.self.now.core.filer)) broken);
+      came = tt;
+    }
 
-pub returns-in-Ok-None-clause-own : goal.returns-in-Ok-None-clause-own
-returns-in-Ok-None-clause-own g c = only_quiet (call.MakeImmutable c.args.id) c.attributes_of.ensures.stays.makes
+pub returns-in-Ok-None-clause-writes : goal.returns-in-Ok-None-clause-writes
+returns-in-Ok-None-clause-writes g c = asked_writes (call.MakeImmutable c.args.id) c.attributes_of.ensures.stays.makes
 
-pub returns-in-Err-clause-own : goal.returns-in-Err-clause-own
-returns-in-Err-clause-own g c = only_quiet (call.MakeImmutable c.args.id) c.attributes_of.ensures.stays.makes
-
-pub returns-in-Ok-clause-own : goal.returns-in-Ok-clause-own
-returns-in-Ok-clause-own g c = only_then (only_quiet (call.MakeImmutable c.args.id) c.attributes_of.ensures.stays.makes) (only_immutable c.args.id c.make_immutable.ensures.makes c.make_immutable.ensures.labels.own)
-
-pub returns-in-Err-make_immutable-clause-own : goal.returns-in-Err-make_immutable-clause-own
-returns-in-Err-make_immutable-clause-own g c = only_then (only_quiet (call.MakeImmutable c.args.id) c.attributes_of.ensures.stays.makes) (only_immutable c.args.id c.make_immutable.ensures.makes c.make_immutable.ensures.labels.own)
+pub returns-in-Err-clause-writes : goal.returns-in-Err-clause-writes
+returns-in-Err-clause-writes g c = asked_writes (call.MakeImmutable c.args.id) c.attributes_of.ensures.stays.makes
 
 -- ---- Why it failed.
 
-pub returns-in-Err-clause-cause : goal.returns-in-Err-clause-cause
-returns-in-Err-clause-cause g c = inl c.in-Err.ensures.fails.cause
+pub returns-in-Err-clause-fails : goal.returns-in-Err-clause-fails
+returns-in-Err-clause-fails g c = fails_wider (λ h. inl h) c.in-Err.ensures.fails
 
-pub returns-in-Err-make_immutable-clause-cause : goal.returns-in-Err-make_immutable-clause-cause
-returns-in-Err-make_immutable-clause-cause g c = inr (state (record c.args.self.now.core { filer = c.attributes_of.new.filer }), look_reaches (state c.args.self.now.core) (state (record c.args.self.now.core { filer = c.attributes_of.new.filer })) c.attributes_of.ensures.stays.looks c.attributes_of.ensures.stays.layout, c.in-Err-make_immutable.ensures.fails.cause)
+pub returns-in-Err-make_immutable-clause-fails : goal.returns-in-Err-make_immutable-clause-fails
+returns-in-Err-make_immutable-clause-fails g c = fails_after c.attributes_of.ensures.stays.makes.went.faults (λ h. inr (state (record c.args.self.now.core { filer = c.attributes_of.new.filer }), look_reaches (state c.args.self.now.core) (state (record c.args.self.now.core { filer = c.attributes_of.new.filer })) c.attributes_of.ensures.stays.looks c.attributes_of.ensures.stays.layout, h)) c.in-Err-make_immutable.ensures.fails
 
 -- ---- The initial state.
 
 pub returns-in-Ok-None-clause-accounts : goal.returns-in-Ok-None-clause-accounts
-returns-in-Ok-None-clause-accounts g c = λ o k. record {
-  keeps_to = ((k.0, (c.in-Ok-None.ensures.accounts o k.0 k.1.0, k.1.1)));
-  reasons = tt;
-  sees = (λ seen. let old = c.args.self.now.core in
-      seen_still o (state old) (accepted old.filer) k (view_of c.attributes_of.new.filer) (λ b. c.in-Ok-None.ensures.accounts (telling o b) k.0) (file_later o c.attributes_of.ensures.stays.makes) seen);
-}
+returns-in-Ok-None-clause-accounts g c = accounts_found c.args.self.now _ c.in-Ok-None.ensures.accounts c.attributes_of.ensures.stays.makes refl refl
 
 pub returns-in-Ok-clause-accounts : goal.returns-in-Ok-clause-accounts
 returns-in-Ok-clause-accounts g c = λ o k. record {
@@ -120,7 +124,9 @@ returns-in-Ok-clause-accounts g c = λ o k. record {
   reasons = tt;
   sees = (λ seen. let old = c.args.self.now.core in
       seen_still o (state old) (accepted old.filer) k (view_of c.make_immutable.new.filer) (λ b h. c.in-Ok.ensures.accounts (telling o b) k.0 (c.in-Ok-Some.ensures.accounts (telling o b) k.0 h))
-      (file_after o (returns-in-Ok-clause-wrote g c)) seen);
+      (file_after o ((returns-in-Ok-clause-writes g c).wrote)) seen);
+  windows = (let old = c.args.self.now.core in
+      same_still o (state old) (accepted old.filer) k (view_of c.make_immutable.new.filer) (λ b h. c.in-Ok.ensures.accounts (telling o b) k.0 (c.in-Ok-Some.ensures.accounts (telling o b) k.0 h)));
 }
 
 pub returns-in-Err-clause-accounts : goal.returns-in-Err-clause-accounts
@@ -131,6 +137,7 @@ returns-in-Err-clause-accounts g c = λ o k. record {
       let disk = (view_of c.attributes_of.new.filer).disk in
       seen_blameless o (state old) (accepted old.filer) k (state old).layout disk c.in-Err.halt (λ b. c.in-Err.ensures.accounts (telling o b) k.0)
       (look_misses (file_pages o disk) c.args.id (state old) (view_of c.attributes_of.new.filer) c.in-Err.halt c.in-Err.ensures.fails.cause) (seen.0, seen.1.0));
+  windows = tt;
 }
 
 pub returns-in-Err-make_immutable-clause-accounts : goal.returns-in-Err-make_immutable-clause-accounts
@@ -144,25 +151,10 @@ returns-in-Err-make_immutable-clause-accounts g c = λ o k. record {
       seen_blameless o (state old) (accepted old.filer) k (view_of c.attributes_of.new.filer).layout disk c.in-Err-make_immutable.halt (λ b h. c.in-Err-make_immutable.ensures.accounts (telling o b) k.0 (c.in-Ok-Some.ensures.accounts (telling o b) k.0 h))
       (misses_file (c.in-Ok-Some.ensures.accounts o k.0 k.1.0) disk
       (file_after o (mark_wrote Immutable (makes_nothing volume_page (view_of c.attributes_of.new.filer).disk (view_of c.attributes_of.new.filer).slots) c.make_immutable.ensures.makes)) c.args.id
-      (file_after o (returns-in-Err-make_immutable-clause-wrote g c) c.args.id leader_page was) c.in-Err-make_immutable.halt
+      (file_after o ((returns-in-Err-make_immutable-clause-writes g c).wrote) c.args.id leader_page was) c.in-Err-make_immutable.halt
       (mark_misses_own c.args.id (view_of c.attributes_of.new.filer) (view_of c.make_immutable.new.filer) c.in-Err-make_immutable.halt c.in-Err-make_immutable.ensures.fails.cause)) (seen.0, seen.1.0));
+  windows = tt;
 }
-
--- ---- What is seen of the space tables, and which page is reported as missing.
-
--- ---- Which files are spared.
-
-pub returns-in-Ok-None-clause-spares : goal.returns-in-Ok-None-clause-spares
-returns-in-Ok-None-clause-spares g c = all_but (spares_quiet c.attributes_of.ensures.stays.makes)
-
-pub returns-in-Err-clause-spares : goal.returns-in-Err-clause-spares
-returns-in-Err-clause-spares g c = all_but (spares_quiet c.attributes_of.ensures.stays.makes)
-
-pub returns-in-Ok-clause-spares : goal.returns-in-Ok-clause-spares
-returns-in-Ok-clause-spares g c = but_then (all_but (spares_quiet c.attributes_of.ensures.stays.makes)) (spares_marked c.args.id Immutable c.make_immutable.ensures.makes c.make_immutable.ensures.labels.own)
-
-pub returns-in-Err-make_immutable-clause-spares : goal.returns-in-Err-make_immutable-clause-spares
-returns-in-Err-make_immutable-clause-spares g c = but_then (all_but (spares_quiet c.attributes_of.ensures.stays.makes)) (spares_marked c.args.id Immutable c.make_immutable.ensures.makes c.make_immutable.ensures.labels.own)
 
 -- ---- The syncs around leaders.
 
@@ -178,29 +170,16 @@ returns-in-Ok-clause-around g c = around_after (quiet_synced false c.attributes_
 pub returns-in-Err-make_immutable-clause-around : goal.returns-in-Err-make_immutable-clause-around
 returns-in-Err-make_immutable-clause-around g c = around_after (quiet_synced false c.attributes_of.ensures.stays.makes) (marked_synced Immutable c.make_immutable.ensures.makes c.in-Err-make_immutable.ensures.labels.around)
 
--- ---- Which windows are seen.
-
-pub returns-in-Ok-None-clause-windows : goal.returns-in-Ok-None-clause-windows
-returns-in-Ok-None-clause-windows g c = λ o k. let old = c.args.self.now.core in same_still o (state old) (accepted old.filer) k (view_of c.attributes_of.new.filer) (λ b. c.in-Ok-None.ensures.accounts (telling o b) k.0)
-
-pub returns-in-Ok-clause-windows : goal.returns-in-Ok-clause-windows
-returns-in-Ok-clause-windows g c = λ o k. let old = c.args.self.now.core in
-    same_still o (state old) (accepted old.filer) k (view_of c.make_immutable.new.filer) (λ b h. c.in-Ok.ensures.accounts (telling o b) k.0 (c.in-Ok-Some.ensures.accounts (telling o b) k.0 h))
-
 -- ---- Which pages came.
 
-pub returns-in-Ok-None-clause-came : goal.returns-in-Ok-None-clause-came
-returns-in-Ok-None-clause-came g c = λ spaces_of m s named unwritten. c.attributes_of.ensures.stays.brings
+pub returns-in-Ok-None-clause-remains : goal.returns-in-Ok-None-clause-remains
+returns-in-Ok-None-clause-remains g c = remains_files c.args.self.now _ c.attributes_of.ensures.stays.layout c.requires.set_up.opened refl refl refl refl
 
-pub returns-in-Err-clause-came : goal.returns-in-Err-clause-came
-returns-in-Err-clause-came g c = λ spaces_of m s named unwritten. tt
+pub returns-in-Err-clause-remains : goal.returns-in-Err-clause-remains
+returns-in-Err-clause-remains g c = remains_files c.args.self.now _ c.attributes_of.ensures.stays.layout c.requires.set_up.opened refl refl refl refl
 
-pub returns-in-Err-make_immutable-clause-came : goal.returns-in-Err-make_immutable-clause-came
-returns-in-Err-make_immutable-clause-came g c = λ spaces_of m s named unwritten. tt
+pub returns-in-Ok-clause-remains : goal.returns-in-Ok-clause-remains
+returns-in-Ok-clause-remains g c = remains_files c.args.self.now _ (c.make_immutable.ensures.stays.layout ∙ c.attributes_of.ensures.stays.layout) c.requires.set_up.opened refl refl refl refl
 
-pub returns-in-Ok-clause-came : goal.returns-in-Ok-clause-came
-returns-in-Ok-clause-came g c = λ spaces_of m s named unwritten.
-    let books = session_books spaces_of _ _ _ _ _ m s in
-    let revealed = subst (λ (o : Option Attributes). IsAttributesOf (shapes_of m.files c.args.id) o) c.in-Ok-Some.field-0-is ((c.in-Ok-Some.ensures.revealed 96 s.stands.memory (shapes_of m.files) m.spaces books).0) in
-    let mid = (c.attributes_of.ensures.revealed 96 s.stands.memory (shapes_of m.files) m.spaces books).1 in
-    brings_then c.attributes_of.ensures.stays.brings (c.in-Ok.ensures.revealed 96 s.stands.memory (shapes_of m.files) m.spaces _ (books_at _ _ _ _ _ _ _ _ mid c.attributes_of.ensures.stays.layout) revealed (leader_hidden spaces_of _ _ m s.stands c.args.id)).leads.brings
+pub returns-in-Err-make_immutable-clause-remains : goal.returns-in-Err-make_immutable-clause-remains
+returns-in-Err-make_immutable-clause-remains g c = remains_files c.args.self.now _ (c.make_immutable.ensures.stays.layout ∙ c.attributes_of.ensures.stays.layout) c.requires.set_up.opened refl refl refl refl

@@ -21,7 +21,7 @@ use Rattle.labelled_disk.specs.Root.{root_page}
 use Rattle.pilot_engine.proofs.session.Session.over.Goals as goal
 
 pub returns-in-Err-clause-sound : goal.returns-in-Err-clause-sound
-returns-in-Err-clause-sound g c = λ d revealed sound. early_outside d (g.met.D.Disk.in_form c.args.disk d revealed) sound c.in-Err.fault.0 c.in-Err.ensures.early (c.in-Err.ensures.judged d revealed)
+returns-in-Err-clause-sound g c = λ d revealed sound. early_outside d (g.met.D.Disk.in_form c.args.disk d revealed) sound c.in-Err.fault.0 c.in-Err.ensures.early (c.in-Err.ensures.refuses.judged d revealed)
 
 pub returns-in-Err-clause-crash_states : goal.returns-in-Err-clause-crash_states
 returns-in-Err-clause-crash_states g c = λ d revealed right. read_keeps c.in-Err.ensures.reads.only d right
@@ -35,11 +35,11 @@ returns-in-Ok-begin-clause-stands g c = λ d revealed sound.
 
 pub returns-in-Ok-begin-clause-crash_states : goal.returns-in-Ok-begin-clause-crash_states
 returns-in-Ok-begin-clause-crash_states g c = λ d revealed right. rw c.over.ensures.filer (
-    start_keeps c.in-Ok.ensures.reads.only c.in-Ok.opened.2 c.in-Ok.ensures.bare c.in-Ok-begin.ensures.starts d revealed right (view_of c.in-Ok.opened.0).layout.sectors
-    (g.met.D.Disk.whole c.args.disk d revealed ∙ sym c.in-Ok.ensures.reads.only.sectors ∙ c.in-Ok.ensures.size) c.in-Ok.ensures.valid c.in-Ok-begin.ensures.serial c.in-Ok-begin.ensures.counter (c.in-Ok.ensures.read d revealed))
+    start_keeps c.in-Ok.ensures.reads.only c.in-Ok.opened.2 c.in-Ok.ensures.blank.bare c.in-Ok-begin.ensures.starts d revealed right (view_of c.in-Ok.opened.0).layout.sectors
+    (g.met.D.Disk.whole c.args.disk d revealed ∙ sym c.in-Ok.ensures.reads.only.sectors ∙ c.in-Ok.ensures.blank.size) c.in-Ok.ensures.valid c.in-Ok-begin.ensures.numbers.serial c.in-Ok-begin.ensures.numbers.counter (c.in-Ok.ensures.read d revealed))
 
 pub returns-in-Ok-begin-clause-wrote : goal.returns-in-Ok-begin-clause-wrote
-returns-in-Ok-begin-clause-wrote g c = rw c.over.ensures.filer (start_wrote c.in-Ok.ensures.reads.only c.in-Ok.opened.2 c.in-Ok.ensures.bare c.in-Ok-begin.ensures.starts)
+returns-in-Ok-begin-clause-wrote g c = rw c.over.ensures.filer (start_wrote c.in-Ok.ensures.reads.only c.in-Ok.opened.2 c.in-Ok.ensures.blank.bare c.in-Ok-begin.ensures.starts)
 
 pub returns-in-Ok-begin-clause-synced : goal.returns-in-Ok-begin-clause-synced
 returns-in-Ok-begin-clause-synced g c =
@@ -47,18 +47,18 @@ returns-in-Ok-begin-clause-synced g c =
     rw c.over.ensures.filer synced
 
 pub returns-in-Err-begin-clause-refused : goal.returns-in-Err-begin-clause-refused
-returns-in-Err-begin-clause-refused g c = λ d why revealed is. absurd (c.in-Ok.ensures.refused d why revealed is)
+returns-in-Err-begin-clause-refused g c = λ d why revealed is. absurd (c.in-Ok.ensures.refuses.refused d why revealed is)
 
 pub returns-in-Err-begin-clause-sound : goal.returns-in-Err-begin-clause-sound
-returns-in-Err-begin-clause-sound g c = λ d revealed sound. c.in-Err-begin.ensures.sound d (c.in-Ok.ensures.reads.only.contents ∙ revealed) sound (c.in-Ok.ensures.read d revealed)
+returns-in-Err-begin-clause-sound g c = λ d revealed sound. c.in-Err-begin.ensures.begun d (c.in-Ok.ensures.reads.only.contents ∙ revealed) sound (c.in-Ok.ensures.read d revealed)
 
 pub returns-in-Err-begin-clause-crash_states : goal.returns-in-Err-begin-clause-crash_states
 returns-in-Err-begin-clause-crash_states g c = λ d revealed right. rw c.into_disk.ensures (
-    start_keeps c.in-Ok.ensures.reads.only c.in-Ok.opened.2 c.in-Ok.ensures.bare c.in-Err-begin.ensures.starts d revealed right (view_of c.in-Ok.opened.0).layout.sectors
-    (g.met.D.Disk.whole c.args.disk d revealed ∙ sym c.in-Ok.ensures.reads.only.sectors ∙ c.in-Ok.ensures.size) c.in-Ok.ensures.valid c.in-Err-begin.ensures.serial c.in-Err-begin.ensures.counter (c.in-Ok.ensures.read d revealed))
+    start_keeps c.in-Ok.ensures.reads.only c.in-Ok.opened.2 c.in-Ok.ensures.blank.bare c.in-Err-begin.ensures.starts d revealed right (view_of c.in-Ok.opened.0).layout.sectors
+    (g.met.D.Disk.whole c.args.disk d revealed ∙ sym c.in-Ok.ensures.reads.only.sectors ∙ c.in-Ok.ensures.blank.size) c.in-Ok.ensures.valid c.in-Err-begin.ensures.numbers.serial c.in-Err-begin.ensures.numbers.counter (c.in-Ok.ensures.read d revealed))
 
 pub returns-in-Err-begin-clause-wrote : goal.returns-in-Err-begin-clause-wrote
-returns-in-Err-begin-clause-wrote g c = rw c.into_disk.ensures (start_wrote c.in-Ok.ensures.reads.only c.in-Ok.opened.2 c.in-Ok.ensures.bare c.in-Err-begin.ensures.starts)
+returns-in-Err-begin-clause-wrote g c = rw c.into_disk.ensures (start_wrote c.in-Ok.ensures.reads.only c.in-Ok.opened.2 c.in-Ok.ensures.blank.bare c.in-Err-begin.ensures.starts)
 
 pub returns-in-Ok-begin-clause-frames : goal.returns-in-Ok-begin-clause-frames
 returns-in-Ok-begin-clause-frames g c = rw c.over.ensures.filer (c.in-Ok-begin.ensures.starts.makes.count ∙ c.in-Ok.ensures.frames)
@@ -70,7 +70,7 @@ pub returns-in-Err-clause-left_open : goal.returns-in-Err-clause-left_open
 returns-in-Err-clause-left_open g c = early_left (g.D.Disk.state c.in-Err.fault.1) c.in-Err.fault.0 c.in-Err.ensures.early
 
 pub returns-in-Err-begin-clause-evidence_seen : goal.returns-in-Err-begin-clause-evidence_seen
-returns-in-Err-begin-clause-evidence_seen g c = rw c.into_disk.ensures c.in-Err-begin.ensures.evidence_seen
+returns-in-Err-begin-clause-evidence_seen g c = rw c.into_disk.ensures c.in-Err-begin.ensures.fails.evidence_seen
 
 pub returns-in-Err-begin-clause-left_open : goal.returns-in-Err-begin-clause-left_open
 returns-in-Err-begin-clause-left_open g c = rw c.into_disk.ensures c.in-Err-begin.ensures.left_open
@@ -90,12 +90,12 @@ returns-in-Err-begin-clause-cause g c =
       revealed = c.in-Ok.ensures.read;
       before = view_of c.in-Ok.opened.0;
       read = c.in-Ok.ensures.reads;
-      laid = ((accepted c.in-Ok.opened.0), sym c.in-Ok.ensures.size ∙ c.in-Ok.ensures.reads.only.sectors);
-      bare = c.in-Ok.ensures.bare;
-      no_runs = c.in-Ok.ensures.no_runs (view_of c.in-Ok.opened.0).layout.sectors;
+      laid = ((accepted c.in-Ok.opened.0), sym c.in-Ok.ensures.blank.size ∙ c.in-Ok.ensures.reads.only.sectors);
+      bare = c.in-Ok.ensures.blank.bare;
+      no_runs = c.in-Ok.ensures.blank.no_runs (view_of c.in-Ok.opened.0).layout.sectors;
       after = view_of c.begin.new.filer;
       left = refl;
-      halts = c.in-Err-begin.ensures.cause;
+      halts = c.in-Err-begin.ensures.fails.cause;
     })
 
 -- ---- What the disk had before is a reason.
@@ -110,17 +110,17 @@ returns-in-Err-clause-reasons g c = λ d named ws begun. (some_root, early_reaso
 pub returns-in-Err-begin-clause-reasons : goal.returns-in-Err-begin-clause-reasons
 returns-in-Err-begin-clause-reasons g c = λ d named ws begun.
     let layout = (view_of c.in-Ok.opened.0).layout in
-    let long = g.met.D.Disk.whole c.args.disk d begun.contents ∙ sym c.in-Ok.ensures.reads.only.sectors ∙ c.in-Ok.ensures.size in
+    let long = g.met.D.Disk.whole c.args.disk d begun.contents ∙ sym c.in-Ok.ensures.reads.only.sectors ∙ c.in-Ok.ensures.blank.size in
     let same : layout ≡ layout_of (length d) = (accepted c.in-Ok.opened.0).1 ∙ ap layout_of (sym long) in
     let root = in_use c.in-Ok.opened.2 in
     rw c.into_disk.ensures (
       root,
       subst (λ (l : Layout). ShowsReason (initial_state d named (ws ++ (root_write root ∷ []))) l (view_of c.begin.new.filer).disk c.in-Err-begin.halt) same
-          (c.in-Err-begin.ensures.reasons d named ws (begun_read c.in-Ok.ensures.reads.only begun)),
+          ((c.in-Err-begin.ensures.accounts d named ws (begun_read c.in-Ok.ensures.reads.only begun)).reasons),
     )
 
 pub returns-in-Ok-begin-clause-keeps_to : goal.returns-in-Ok-begin-clause-keeps_to
-returns-in-Ok-begin-clause-keeps_to g c = λ d named ws begun. rw c.over.ensures.filer (in_use c.in-Ok.opened.2, c.in-Ok-begin.ensures.keeps_to d named ws (begun_read c.in-Ok.ensures.reads.only begun))
+returns-in-Ok-begin-clause-keeps_to g c = λ d named ws begun. rw c.over.ensures.filer (in_use c.in-Ok.opened.2, (c.in-Ok-begin.ensures.accounts d named ws (begun_read c.in-Ok.ensures.reads.only begun)).keeps_to)
 
 -- ---- What is seen of the space tables.
 
@@ -128,24 +128,24 @@ pub returns-in-Err-clause-sees : goal.returns-in-Err-clause-sees
 returns-in-Err-clause-sees g c = λ d named ws begun. early_never_blames c.in-Err.fault.0 c.in-Err.ensures.early
 
 pub returns-in-Err-begin-clause-sees : goal.returns-in-Err-begin-clause-sees
-returns-in-Err-begin-clause-sees g c = λ d named ws begun. c.in-Err-begin.ensures.sees d named ws (begun_read c.in-Ok.ensures.reads.only begun)
+returns-in-Err-begin-clause-sees g c = λ d named ws begun. (c.in-Err-begin.ensures.accounts d named ws (begun_read c.in-Ok.ensures.reads.only begun)).sees
 
 pub returns-in-Ok-begin-clause-sees : goal.returns-in-Ok-begin-clause-sees
 returns-in-Ok-begin-clause-sees g c = λ d named ws begun.
-    sees_over c.over.result c.begin.new.filer c.over.ensures.filer c.over.ensures.kept c.over.ensures.intervals (c.in-Ok-begin.ensures.sees d named ws (begun_read c.in-Ok.ensures.reads.only begun))
+    sees_over c.over.result c.begin.new.filer c.over.ensures.filer c.over.ensures.kept c.over.ensures.intervals ((c.in-Ok-begin.ensures.accounts d named ws (begun_read c.in-Ok.ensures.reads.only begun)).sees)
 
 pub returns-in-Ok-begin-clause-root : goal.returns-in-Ok-begin-clause-root
 returns-in-Ok-begin-clause-root g c = λ d revealed.
     let read = c.in-Ok.ensures.read d revealed in
-    let begun = only_begun c.in-Ok.ensures.reads.only c.in-Ok-begin.ensures.starts c.in-Ok-begin.ensures.serial c.in-Ok-begin.ensures.counter (root_in (root_page d)) read in
-    (subst (λ (r : Root). IsMonotone r c.in-Ok-begin.volume.root) read c.in-Ok-begin.ensures.monotone, rw c.over.ensures.filer begun)
+    let begun = only_begun c.in-Ok.ensures.reads.only c.in-Ok-begin.ensures.starts c.in-Ok-begin.ensures.numbers.serial c.in-Ok-begin.ensures.numbers.counter (root_in (root_page d)) read in
+    (subst (λ (r : Root). IsMonotone r c.in-Ok-begin.volume.root) read c.in-Ok-begin.ensures.numbers.monotone, rw c.over.ensures.filer begun)
 
 pub returns-in-Err-clause-root : goal.returns-in-Err-clause-root
 returns-in-Err-clause-root g c = λ d revealed. only_read (root_in (root_page d)) c.in-Err.ensures.reads.only
 
 pub returns-in-Err-begin-clause-root : goal.returns-in-Err-begin-clause-root
 returns-in-Err-begin-clause-root g c = λ d revealed.
-    rw c.into_disk.ensures (only_begun c.in-Ok.ensures.reads.only c.in-Err-begin.ensures.starts c.in-Err-begin.ensures.serial c.in-Err-begin.ensures.counter (root_in (root_page d)) (c.in-Ok.ensures.read d revealed))
+    rw c.into_disk.ensures (only_begun c.in-Ok.ensures.reads.only c.in-Err-begin.ensures.starts c.in-Err-begin.ensures.numbers.serial c.in-Err-begin.ensures.numbers.counter (root_in (root_page d)) (c.in-Ok.ensures.read d revealed))
 
 -- ---- What it spends.
 
@@ -155,7 +155,7 @@ returns-in-Ok-begin-clause-bounded g c =
     let old = g.D.Disk.state c.args.disk in
     let read = (view_of c.in-Ok.opened.0).disk in
     let new = (view_of c.begin.new.filer).disk in
-    rw c.over.ensures.filer (on_layout layout old new (sym c.in-Ok.ensures.reads.only.sectors ∙ c.in-Ok.ensures.size)
+    rw c.over.ensures.filer (on_layout layout old new (sym c.in-Ok.ensures.reads.only.sectors ∙ c.in-Ok.ensures.blank.size)
     (start_bounded layout (accepted c.in-Ok.opened.0) old.transfers read.transfers new.transfers c.in-Ok.ensures.reads.moved c.begin.ensures.cost))
 
 pub returns-in-Err-begin-clause-bounded : goal.returns-in-Err-begin-clause-bounded
@@ -164,10 +164,31 @@ returns-in-Err-begin-clause-bounded g c =
     let old = g.D.Disk.state c.args.disk in
     let read = (view_of c.in-Ok.opened.0).disk in
     let new = (view_of c.begin.new.filer).disk in
-    rw c.into_disk.ensures (on_layout layout old new (sym c.in-Ok.ensures.reads.only.sectors ∙ c.in-Ok.ensures.size)
+    rw c.into_disk.ensures (on_layout layout old new (sym c.in-Ok.ensures.reads.only.sectors ∙ c.in-Ok.ensures.blank.size)
     (start_bounded layout (accepted c.in-Ok.opened.0) old.transfers read.transfers new.transfers c.in-Ok.ensures.reads.moved c.begin.ensures.cost))
 
 -- ---- No page of a client's is dirty.
 
 pub returns-in-Ok-begin-clause-clean : goal.returns-in-Ok-begin-clause-clean
-returns-in-Ok-begin-clause-clean g c = rw c.over.ensures.filer (clean_start c.in-Ok.ensures.bare c.in-Ok-begin.ensures.starts.makes)
+returns-in-Ok-begin-clause-clean g c = rw c.over.ensures.filer (clean_start c.in-Ok.ensures.blank.bare c.in-Ok-begin.ensures.starts.makes)
+
+pub returns-in-Err-clause-count : goal.returns-in-Err-clause-count
+returns-in-Err-clause-count g c = c.in-Err.ensures.refuses.count
+
+pub returns-in-Err-clause-bad_count : goal.returns-in-Err-clause-bad_count
+returns-in-Err-clause-bad_count g c = c.in-Err.ensures.refuses.bad_count
+
+pub returns-in-Err-clause-refused : goal.returns-in-Err-clause-refused
+returns-in-Err-clause-refused g c = c.in-Err.ensures.refuses.refused
+
+pub returns-in-Err-clause-judged : goal.returns-in-Err-clause-judged
+returns-in-Err-clause-judged g c = c.in-Err.ensures.refuses.judged
+
+pub returns-in-Ok-begin-clause-count : goal.returns-in-Ok-begin-clause-count
+returns-in-Ok-begin-clause-count g c = c.in-Ok.ensures.refuses.count
+
+pub returns-in-Err-begin-clause-count : goal.returns-in-Err-begin-clause-count
+returns-in-Err-begin-clause-count g c = λ isnt. absurd (c.in-Ok.ensures.refuses.count isnt)
+
+pub returns-in-Ok-begin-clause-refused : goal.returns-in-Ok-begin-clause-refused
+returns-in-Ok-begin-clause-refused g c = c.in-Ok.ensures.refuses.refused

@@ -55,26 +55,27 @@ returns-in_default g c =
     let quiet = no_client what c.in_default.not-Load c.in_default.not-Store c.in_default.not-Activate in
     record {
       machine = λ m runs.
-          let a = did.answers m runs in
+          let all = did.machine m runs in
+          let a = all.answers in
           subst (λ (t : Result Tried Halt). TriesIn m what old t new) (sym c.replied.ensures)
-          (replied_in m what old new r c.requires.more (no_reference what quiet) runs a.carried a.sound a.passes (a.came quiet) (λ none free. did.advised m free runs) (λ one free. did.forced m one free runs) a.cost);
+          (replied_in m what old new r c.requires.more (no_reference what quiet) runs a.carried a.sound a.passes (a.came quiet) (λ none free. all.advised free) (λ one free. all.forced one free) a.cost);
       accounts = λ o k up.
           subst (λ (t : Result Tried Halt). Accounts o (giving o (next_id new.volume.root)) old new t) (sym c.replied.ensures)
-          (replied_accounts o (giving o (next_id new.volume.root)) old new r (did.accounts o k up));
+          (replied_accounts o (giving o (next_id new.volume.root)) old new r ((did.accounts o k up).accounts));
       tries = subst (λ (t : Result Tried Halt). Tries what old t new) (sym c.replied.ensures) (record {
         absent = reply_tried what r;
-        fails = step_fails (next_id old.volume.root) what old.core.intervals (state old.core) (state new.core) r quiet did.fails;
-        wrote = did.wrote;
+        fails = step_fails (next_id old.volume.root) what old.core.intervals (state old.core) (state new.core) r quiet did.halts.fails;
+        wrote = did.writes.wrote;
         few = λ one. absurd (true≢false (sym one ∙ no_reference what quiet));
         room = λ one. absurd (true≢false (sym one ∙ no_reference what quiet));
         stay = λ one. absurd (true≢false (sym one ∙ no_reference what quiet));
-        stays = did.stays;
+        stays = did.remains.stays;
       });
       labels = record {
-        own = subst (λ (t : Result Tried Halt). WritesAllowed what old new t) (sym c.replied.ensures) (allowed_tried r (Written (CallMay (next_id old.volume.root) new.volume.root what) (state old.core).disk (state new.core).disk) did.own);
-        spares = did.spares;
+        own = subst (λ (t : Result Tried Halt). WritesAllowed what old new t) (sym c.replied.ensures) (allowed_tried r (Written (CallMay (next_id old.volume.root) new.volume.root what) (state old.core).disk (state new.core).disk) did.writes.own);
+        spares = did.writes.spares;
         around = λ leads. subst (λ (t : Result Tried Halt). SyncsLeaders t (state old.core).disk (state new.core).disk) (sym c.replied.ensures) (replied_around (state old.core).disk (state new.core).disk r (did.around leads));
-        unlabelled = did.unlabelled;
+        unlabelled = did.writes.unlabelled;
       };
-      running = did.running;
+      running = did.remains.running;
     }

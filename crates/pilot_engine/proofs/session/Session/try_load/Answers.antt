@@ -41,7 +41,7 @@ returns-in-Ok g c =
     let n = c.args.count in
     let long : length c.try_load.new.into ≡ n = search rules in
     let same = sym did.moves.width ∙ long in
-    let whole = whole_of old c.requires.size in
+    let whole = whole_of old c.requires.set_up.size in
     let moves = moves_of_reaches (state old) (state new) did.brings.reaches in
     let makes = reached_makes did.brings.reaches in
     let came_to = tried_as (reply.Bytes c.try_load.new.into) c.in-Ok.attempt in
@@ -73,7 +73,7 @@ returns-in-Ok g c =
         few = λ one. did.cost;
         room = λ one. did.brings.room;
         stay = λ one. pages_yield did.brings.stay;
-        stays = record { open_still = still_open _ _ _ _ c.requires.opened did.brings.reaches.layout refl; monotone = omega arith; serial = refl; layout = did.brings.reaches.layout };
+        stays = record { open_still = still_open _ _ _ _ c.requires.set_up.opened did.brings.reaches.layout refl; monotone = omega arith; serial = refl; layout = did.brings.reaches.layout };
       });
       labels = labels_quiet (call.Load c.args.address n) c.args.self.now (record c.args.self.now { core = new }) c.loaded.result refl moves.goes.makes;
       running = refl;
@@ -87,7 +87,7 @@ returns-in-Err g c =
     let n = c.args.count in
     let long : length c.try_load.new.into ≡ n = search rules in
     let same = sym did.moves.width ∙ long in
-    let whole = whole_of old c.requires.size in
+    let whole = whole_of old c.requires.set_up.size in
     let moves = moves_of_reaches (state old) (state new) did.brings.reaches in
     let makes = reached_makes did.brings.reaches in
     let outcome : Result Tried Halt = Err c.in-Err.halt in
@@ -112,12 +112,12 @@ returns-in-Err g c =
       };
       tries = record {
         absent = tt;
-        fails = fails_reached (BreaksFor (state old) old.intervals c.args.address n) (state old) (state new) (fits (swapper_of old.filer) c.requires.size) did.brings.reaches.goes.makes c.in-Err.halt cause;
+        fails = fails_reached (BreaksFor (state old) old.intervals c.args.address n) (state old) (state new) (fits (swapper_of old.filer) c.requires.set_up.size) did.brings.reaches.goes.makes c.in-Err.halt cause;
         wrote = wrote_so makes;
         few = λ one. did.cost;
         room = λ one. did.brings.room;
         stay = λ one. pages_yield did.brings.stay;
-        stays = record { open_still = still_open _ _ _ _ c.requires.opened did.brings.reaches.layout refl; monotone = omega arith; serial = refl; layout = did.brings.reaches.layout };
+        stays = record { open_still = still_open _ _ _ _ c.requires.set_up.opened did.brings.reaches.layout refl; monotone = omega arith; serial = refl; layout = did.brings.reaches.layout };
       };
       labels = labels_quiet (call.Load c.args.address n) c.args.self.now (record c.args.self.now { core = new }) outcome refl moves.goes.makes;
       running = refl;

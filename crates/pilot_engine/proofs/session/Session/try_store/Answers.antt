@@ -42,7 +42,7 @@ returns-in-Ok g c =
     let did = c.in-Ok.ensures in
     let bytes = c.args.bytes.now in
     let n = length bytes in
-    let whole = whole_of old c.requires.size in
+    let whole = whole_of old c.requires.set_up.size in
     let few : n ≤ 512 = omega (arith, c.requires.few) in
     let moves = moves_of_touches (state old) (state new) client_page did.brings.touches in
     let typed : AreBytes bytes = are_bytes bytes (λ k. let fits = c.type_inv.bytes k in omega (arith, fits)) in
@@ -76,7 +76,7 @@ returns-in-Ok g c =
         few = λ one. did.cost;
         room = λ one. did.brings.room;
         stay = λ one. did.brings.stay;
-        stays = record { open_still = still_open _ _ _ _ c.requires.opened did.brings.touches.layout refl; monotone = omega arith; serial = refl; layout = did.brings.touches.layout };
+        stays = record { open_still = still_open _ _ _ _ c.requires.set_up.opened did.brings.touches.layout refl; monotone = omega arith; serial = refl; layout = did.brings.touches.layout };
       };
       labels = labels_quiet (call.Store c.args.address bytes) c.args.self.now (record c.args.self.now { core = new }) outcome refl moves.goes.makes;
       running = refl;
@@ -89,7 +89,7 @@ returns-in-Err g c =
     let did = c.in-Err.ensures in
     let bytes = c.args.bytes.now in
     let n = length bytes in
-    let whole = whole_of old c.requires.size in
+    let whole = whole_of old c.requires.set_up.size in
     let few : n ≤ 512 = omega (arith, c.requires.few) in
     let moves = moves_of_touches (state old) (state new) client_page did.brings.touches in
     let typed : AreBytes bytes = are_bytes bytes (λ k. let fits = c.type_inv.bytes k in omega (arith, fits)) in
@@ -116,12 +116,12 @@ returns-in-Err g c =
       };
       tries = record {
         absent = tt;
-        fails = fails_reached (BreaksFor (state old) old.intervals c.args.address n) (state old) (state new) (fits (swapper_of old.filer) c.requires.size) did.brings.touches.goes.makes c.in-Err.halt cause;
+        fails = fails_reached (BreaksFor (state old) old.intervals c.args.address n) (state old) (state new) (fits (swapper_of old.filer) c.requires.set_up.size) did.brings.touches.goes.makes c.in-Err.halt cause;
         wrote = wrote_so (store_makes did.brings.touches);
         few = λ one. did.cost;
         room = λ one. did.brings.room;
         stay = λ one. did.brings.stay;
-        stays = record { open_still = still_open _ _ _ _ c.requires.opened did.brings.touches.layout refl; monotone = omega arith; serial = refl; layout = did.brings.touches.layout };
+        stays = record { open_still = still_open _ _ _ _ c.requires.set_up.opened did.brings.touches.layout refl; monotone = omega arith; serial = refl; layout = did.brings.touches.layout };
       };
       labels = labels_quiet (call.Store c.args.address bytes) c.args.self.now (record c.args.self.now { core = new }) outcome refl moves.goes.makes;
       running = refl;

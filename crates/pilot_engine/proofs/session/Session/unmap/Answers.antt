@@ -1,4 +1,4 @@
-use Rattle.std.proofs.Common.{ap, arith, inl, inr, Ok, refl, Result, rules, subst, sym, true, ◌^◌, ◌∙◌, ◌≡◌}
+use Rattle.std.proofs.Common.{ap, arith, inl, inr, Ok, refl, Result, subst, sym, true, ◌^◌, ◌∙◌, ◌≡◌, ◌≤◌}
 use Rattle.labelled_disk.specs.declared.layout.Layout.{Layout}
 use Rattle.flat_machine.specs.declared.call.Call.TheVariants as call
 use Rattle.flat_machine.specs.declared.call.Refusal.{Refusal}
@@ -32,6 +32,9 @@ use Rattle.pilot_engine.proofs.SparedCalls.{all_then, spares_quiet}
 use Rattle.pilot_engine.proofs.WindowLemmas.{on_then}
 use Rattle.swapper_kernel.specs.HaltLaws.{brings_then}
 use Rattle.pilot_engine.proofs.WritingLemmas.{only_quiet, only_then, only_unmapped}
+use Rattle.pilot_engine.proofs.FailSteps.{fails_after, fails_fault, fails_wider}
+use Rattle.space_calls.specs.OutcomesLaws.{halted}
+use Rattle.pilot_engine.proofs.SpaceSteps.{stays_on}
 use Rattle.pilot_engine.proofs.session.Session.unmap.Goals as goal
 use Rattle.space_calls.specs.OutcomesLaws.{waited_rose}
 use Rattle.filer_kernel.specs.View.{accepted, disk_of, view_of}
@@ -46,16 +49,15 @@ returns-in-Ok-Err-clause-answers g c = λ m r. record {
   cost = (asked_inside (state c.args.self.now.core).disk (state c.take_window.new.core).disk (2 ^ 23) (omega arith) c.take_window.ensures.cost);
 }
 
-pub returns-in-Ok-Err-clause-wrote : goal.returns-in-Ok-Err-clause-wrote
-returns-in-Ok-Err-clause-wrote g c = wrote_by c.take_window.ensures.makes tt
-
-pub returns-in-Ok-Err-clause-stays : goal.returns-in-Ok-Err-clause-stays
-returns-in-Ok-Err-clause-stays g c = record {
-  open_still = (still_open _ _ _ _ c.requires.opened c.take_window.ensures.reshapes.layout refl);
-  monotone = (search rules);
-  serial = (search rules);
-  layout = (search rules);
+pub returns-in-Ok-Err-clause-writes : goal.returns-in-Ok-Err-clause-writes
+returns-in-Ok-Err-clause-writes g c = record {
+  wrote = wrote_by c.take_window.ensures.makes tt;
+  own = only_quiet (call.Unmap c.args.space) c.take_window.ensures.makes;
+  spares = spares_quiet c.take_window.ensures.makes;
 }
+
+pub returns-in-Ok-Err-clause-remains : goal.returns-in-Ok-Err-clause-remains
+returns-in-Ok-Err-clause-remains g c = record { stays = stays_on c.args.self.now c.take_window.new.core c.requires.set_up.opened c.take_window.ensures.reshapes.layout; running = refl }
 
 pub returns-in-Err-clause-answers : goal.returns-in-Err-clause-answers
 returns-in-Err-clause-answers g c = λ m r. record {
@@ -66,16 +68,15 @@ returns-in-Err-clause-answers g c = λ m r. record {
   cost = (asked_inside (state c.args.self.now.core).disk (state c.take_window.new.core).disk (2 ^ 23) (omega arith) c.take_window.ensures.cost);
 }
 
-pub returns-in-Err-clause-wrote : goal.returns-in-Err-clause-wrote
-returns-in-Err-clause-wrote g c = wrote_by c.take_window.ensures.makes tt
-
-pub returns-in-Err-clause-stays : goal.returns-in-Err-clause-stays
-returns-in-Err-clause-stays g c = record {
-  open_still = (still_open _ _ _ _ c.requires.opened c.take_window.ensures.reshapes.layout refl);
-  monotone = (search rules);
-  serial = (search rules);
-  layout = (search rules);
+pub returns-in-Err-clause-writes : goal.returns-in-Err-clause-writes
+returns-in-Err-clause-writes g c = record {
+  wrote = wrote_by c.take_window.ensures.makes tt;
+  own = only_quiet (call.Unmap c.args.space) c.take_window.ensures.makes;
+  spares = spares_quiet c.take_window.ensures.makes;
 }
+
+pub returns-in-Err-clause-remains : goal.returns-in-Err-clause-remains
+returns-in-Err-clause-remains g c = record { stays = stays_on c.args.self.now c.take_window.new.core c.requires.set_up.opened c.take_window.ensures.reshapes.layout; running = refl }
 
 pub returns-then-not-shown-clause-answers : goal.returns-then-not-shown-clause-answers
 returns-then-not-shown-clause-answers g c = λ m r. record {
@@ -87,22 +88,18 @@ returns-then-not-shown-clause-answers g c = λ m r. record {
   cost = (asked_inside (state c.args.self.now.core).disk (state c.take_window.new.core).disk (2 ^ 23) (omega arith) c.take_window.ensures.cost);
 }
 
-pub returns-then-not-shown-clause-wrote : goal.returns-then-not-shown-clause-wrote
-returns-then-not-shown-clause-wrote g c = wrote_by c.take_window.ensures.makes tt
-
-pub returns-then-not-shown-clause-stays : goal.returns-then-not-shown-clause-stays
-returns-then-not-shown-clause-stays g c = record {
-  open_still = (still_open _ _ _ _ c.requires.opened c.take_window.ensures.reshapes.layout refl);
-  monotone = (search rules);
-  serial = (search rules);
-  layout = (search rules);
+pub returns-then-not-shown-clause-writes : goal.returns-then-not-shown-clause-writes
+returns-then-not-shown-clause-writes g c = record {
+  wrote = wrote_by c.take_window.ensures.makes tt;
+  own = only_quiet (call.Unmap c.args.space) c.take_window.ensures.makes;
+  spares = spares_quiet c.take_window.ensures.makes;
 }
 
-pub delete_unseen-requires-clause-size : goal.delete_unseen-requires-clause-size
-delete_unseen-requires-clause-size g c = c.take_window.ensures.makes.went.sectors ∙ c.requires.size ∙ ap (λ (l : Layout). l.sectors) (sym c.take_window.ensures.reshapes.layout)
+pub returns-then-not-shown-clause-remains : goal.returns-then-not-shown-clause-remains
+returns-then-not-shown-clause-remains g c = record { stays = stays_on c.args.self.now c.take_window.new.core c.requires.set_up.opened c.take_window.ensures.reshapes.layout; running = refl }
 
-pub delete_unseen-requires-clause-opened : goal.delete_unseen-requires-clause-opened
-delete_unseen-requires-clause-opened g c = still_open _ _ _ _ c.requires.opened c.take_window.ensures.reshapes.layout refl
+pub delete_unseen-requires : goal.delete_unseen-requires
+delete_unseen-requires g c = record { set_up = record { size = c.take_window.ensures.makes.went.sectors ∙ c.requires.set_up.size ∙ ap (λ (l : Layout). l.sectors) (sym c.take_window.ensures.reshapes.layout); opened = still_open _ _ _ _ c.requires.set_up.opened c.take_window.ensures.reshapes.layout refl } }
 
 pub returns-in-Err-delete_unseen-clause-answers : goal.returns-in-Err-delete_unseen-clause-answers
 returns-in-Err-delete_unseen-clause-answers g c = λ m r.
@@ -111,50 +108,63 @@ returns-in-Err-delete_unseen-clause-answers g c = λ m r.
       carried = tt;
       sound = (c.in-Err-delete_unseen.ensures.sound _ _ t.left.session (left_unseen m r.session.stands.is.by.machine c.args.space t.s t.here c.in-Ok-Ok.shown t.window t.free (is_set _ c.if-not-shown.false)) (λ set. left_temporary m r.session.stands.is.by.machine c.args.space t.s t.here c.in-Ok-Ok.shown t.window t.free (is_set _ c.if-not-shown.false)));
       passes = (quiet_then m _ (call.Unmap c.args.space) (call.Delete c.in-Ok-Ok.shown.id) (asked_passes c.args.self.now.core c.args.self.now.volume m call.Volume r (g.met.D.Disk.in_form (disk_of c.args.self.now.core.filer)) c.take_window.ensures.makes)
-          (c.delete_unseen.ensures.passes _ _ t.left.session (left_unseen m r.session.stands.is.by.machine c.args.space t.s t.here c.in-Ok-Ok.shown t.window t.free (is_set _ c.if-not-shown.false)) (λ set. left_temporary m r.session.stands.is.by.machine c.args.space t.s t.here c.in-Ok-Ok.shown t.window t.free (is_set _ c.if-not-shown.false))) (omega arith) (hidden_alike m r.session.stands.is.by.machine c.args.space t.s t.here c.in-Ok-Ok.shown t.window t.free (is_set _ c.if-not-shown.false)) (hidden_numbers m r.session.stands.is.by.machine c.args.space t.s t.here c.in-Ok-Ok.shown t.window t.free (is_set _ c.if-not-shown.false)));
+          ((c.delete_unseen.ensures.answers _ _ t.left.session (left_unseen m r.session.stands.is.by.machine c.args.space t.s t.here c.in-Ok-Ok.shown t.window t.free (is_set _ c.if-not-shown.false)) (λ set. left_temporary m r.session.stands.is.by.machine c.args.space t.s t.here c.in-Ok-Ok.shown t.window t.free (is_set _ c.if-not-shown.false))).passes) (omega arith) (hidden_alike m r.session.stands.is.by.machine c.args.space t.s t.here c.in-Ok-Ok.shown t.window t.free (is_set _ c.if-not-shown.false)) (hidden_numbers m r.session.stands.is.by.machine c.args.space t.s t.here c.in-Ok-Ok.shown t.window t.free (is_set _ c.if-not-shown.false)));
       came = λ quiet. tt;
       cost = (spent_besides (state c.args.self.now.core).disk (state c.take_window.new.core).disk (state c.delete_unseen.new.self.core).disk c.take_window.ensures.makes.went.sectors (let few = c.take_window.ensures.cost in omega (arith, few)) (c.delete_unseen.ensures.bounded _ _ t.left.session));
     }
 
-pub returns-in-Err-delete_unseen-clause-wrote : goal.returns-in-Err-delete_unseen-clause-wrote
-returns-in-Err-delete_unseen-clause-wrote g c = wrote_then (wrote_by c.take_window.ensures.makes tt) c.delete_unseen.ensures.wrote
+pub returns-in-Err-delete_unseen-clause-writes : goal.returns-in-Err-delete_unseen-clause-writes
+returns-in-Err-delete_unseen-clause-writes g c = record {
+  wrote = wrote_then (wrote_by c.take_window.ensures.makes tt) c.delete_unseen.ensures.writes.wrote;
+  own = only_then (only_quiet (call.Unmap c.args.space) c.take_window.ensures.makes) ((only_unmapped c.in-Ok-Ok.shown.id c.args.space c.delete_unseen.ensures.writes.own));
+  spares = all_then (spares_quiet c.take_window.ensures.makes) (c.delete_unseen.ensures.lasting refl);
+}
 
-pub returns-in-Err-delete_unseen-clause-counted : goal.returns-in-Err-delete_unseen-clause-counted
-returns-in-Err-delete_unseen-clause-counted g c = λ is. rose_after _ _ _ c.take_window.ensures.makes.went.faults (c.in-Err-delete_unseen.ensures.counted is)
-
-pub returns-in-Err-delete_unseen-clause-stays : goal.returns-in-Err-delete_unseen-clause-stays
-returns-in-Err-delete_unseen-clause-stays g c = record {
-  open_still = (search rules);
-  monotone = (search rules);
-  serial = (search rules);
-  layout = (c.delete_unseen.ensures.stays.layout ∙ c.take_window.ensures.reshapes.layout);
+pub returns-in-Err-delete_unseen-clause-remains : goal.returns-in-Err-delete_unseen-clause-remains
+returns-in-Err-delete_unseen-clause-remains g c = record {
+  stays = record {
+    open_still = c.delete_unseen.ensures.remains.stays.open_still;
+    monotone = c.delete_unseen.ensures.remains.stays.monotone;
+    serial = c.delete_unseen.ensures.remains.stays.serial;
+    layout = (c.delete_unseen.ensures.remains.stays.layout ∙ c.take_window.ensures.reshapes.layout);
+  };
+  running = c.delete_unseen.ensures.remains.running;
 }
 
 pub returns-in-Ok-sync-clause-answers : goal.returns-in-Ok-sync-clause-answers
 returns-in-Ok-sync-clause-answers g c = λ m r.
     let t = took m c.args.space c.in-Ok-Ok.shown (λ n. Runs c.take_window.new.core c.args.self.now.volume n) (subst (λ (x : Result Shown Refusal). Reveals (first_of (window_row m.spaces c.args.space)) (IsTaken m c.args.space (λ n. Runs c.take_window.new.core c.args.self.now.volume n)) x) c.in-Ok-Ok.field-0-is (c.in-Ok-Ok.ensures.takes c.args.self.now.volume m r).taken) in
-    let carried = hidden_carried m r.session.stands.is.by.machine c.args.space t.s t.here c.in-Ok-Ok.shown t.window t.free (is_set _ c.if-not-shown.false) c.delete_unseen.new.self.core c.delete_unseen.new.self.volume (Ok c.in-Ok.done) (carried_out c.take_window.new.core c.delete_unseen.new.self.core c.args.self.now.volume c.delete_unseen.new.self.volume _ (call.Delete c.in-Ok-Ok.shown.id) c.delete_unseen.ensures.kept c.delete_unseen.ensures.intervals refl t.left (Ok c.in-Ok.done) (λ spaces_of s. c.in-Ok.ensures.carried spaces_of _ s (left_unseen m r.session.stands.is.by.machine c.args.space t.s t.here c.in-Ok-Ok.shown t.window t.free (is_set _ c.if-not-shown.false)) (λ set. left_temporary m r.session.stands.is.by.machine c.args.space t.s t.here c.in-Ok-Ok.shown t.window t.free (is_set _ c.if-not-shown.false)))) in
+    let carried = hidden_carried m r.session.stands.is.by.machine c.args.space t.s t.here c.in-Ok-Ok.shown t.window t.free (is_set _ c.if-not-shown.false) c.delete_unseen.new.self.core c.delete_unseen.new.self.volume (Ok c.in-Ok.done) (carried_out c.take_window.new.core c.delete_unseen.new.self.core c.args.self.now.volume c.delete_unseen.new.self.volume _ (call.Delete c.in-Ok-Ok.shown.id) c.delete_unseen.ensures.remains.kept c.delete_unseen.ensures.remains.intervals refl t.left (Ok c.in-Ok.done) (λ spaces_of s. (c.in-Ok.ensures.answers spaces_of _ s (left_unseen m r.session.stands.is.by.machine c.args.space t.s t.here c.in-Ok-Ok.shown t.window t.free (is_set _ c.if-not-shown.false)) (λ set. left_temporary m r.session.stands.is.by.machine c.args.space t.s t.here c.in-Ok-Ok.shown t.window t.free (is_set _ c.if-not-shown.false))).carried)) in
     record {
-      carried = (waited_carried c.delete_unseen.new.self.core c.sync.new.core (accepted c.delete_unseen.new.self.core.filer) (c.delete_unseen.ensures.wrote.makes.went.sectors ∙ c.take_window.ensures.makes.went.sectors ∙ c.requires.size ∙ ap (λ (l : Layout). l.sectors) (sym (c.delete_unseen.ensures.stays.layout ∙ c.take_window.ensures.reshapes.layout))) c.delete_unseen.new.self.volume m (call.Unmap c.args.space) c.in-Ok.done carried c.sync.ensures.waits.reaches c.sync.ensures.waits.frames c.sync.ensures.waits.intervals c.sync.ensures.waits.known);
+      carried = (waited_carried c.delete_unseen.new.self.core c.sync.new.core (accepted c.delete_unseen.new.self.core.filer) (c.delete_unseen.ensures.writes.wrote.makes.went.sectors ∙ c.take_window.ensures.makes.went.sectors ∙ c.requires.set_up.size ∙ ap (λ (l : Layout). l.sectors) (sym (c.delete_unseen.ensures.remains.stays.layout ∙ c.take_window.ensures.reshapes.layout))) c.delete_unseen.new.self.volume m (call.Unmap c.args.space) c.in-Ok.done carried c.sync.ensures.waits.reaches c.sync.ensures.waits.frames c.sync.ensures.waits.intervals c.sync.ensures.waits.known);
       sound = tt;
       passes = (passes_still m (call.Unmap c.args.space)
           (quiet_then m _ (call.Unmap c.args.space) (call.Delete c.in-Ok-Ok.shown.id) (asked_passes c.args.self.now.core c.args.self.now.volume m call.Volume r (g.met.D.Disk.in_form (disk_of c.args.self.now.core.filer)) c.take_window.ensures.makes)
-          (c.delete_unseen.ensures.passes _ _ t.left.session (left_unseen m r.session.stands.is.by.machine c.args.space t.s t.here c.in-Ok-Ok.shown t.window t.free (is_set _ c.if-not-shown.false)) (λ set. left_temporary m r.session.stands.is.by.machine c.args.space t.s t.here c.in-Ok-Ok.shown t.window t.free (is_set _ c.if-not-shown.false))) (omega arith) (hidden_alike m r.session.stands.is.by.machine c.args.space t.s t.here c.in-Ok-Ok.shown t.window t.free (is_set _ c.if-not-shown.false)) (hidden_numbers m r.session.stands.is.by.machine c.args.space t.s t.here c.in-Ok-Ok.shown t.window t.free (is_set _ c.if-not-shown.false)))
+          ((c.delete_unseen.ensures.answers _ _ t.left.session (left_unseen m r.session.stands.is.by.machine c.args.space t.s t.here c.in-Ok-Ok.shown t.window t.free (is_set _ c.if-not-shown.false)) (λ set. left_temporary m r.session.stands.is.by.machine c.args.space t.s t.here c.in-Ok-Ok.shown t.window t.free (is_set _ c.if-not-shown.false))).passes) (omega arith) (hidden_alike m r.session.stands.is.by.machine c.args.space t.s t.here c.in-Ok-Ok.shown t.window t.free (is_set _ c.if-not-shown.false)) (hidden_numbers m r.session.stands.is.by.machine c.args.space t.s t.here c.in-Ok-Ok.shown t.window t.free (is_set _ c.if-not-shown.false)))
           c.sync.ensures.waits.same);
-      came = λ quiet. rw c.sync.ensures.waits.frames (brings_then c.take_window.ensures.reshapes.came (c.in-Ok.ensures.came _ _ t.left.session (left_unseen m r.session.stands.is.by.machine c.args.space t.s t.here c.in-Ok-Ok.shown t.window t.free (is_set _ c.if-not-shown.false)) (λ set. left_temporary m r.session.stands.is.by.machine c.args.space t.s t.here c.in-Ok-Ok.shown t.window t.free (is_set _ c.if-not-shown.false))));
+      came = λ quiet. rw c.sync.ensures.waits.frames (brings_then c.take_window.ensures.reshapes.came ((c.in-Ok.ensures.answers _ _ t.left.session (left_unseen m r.session.stands.is.by.machine c.args.space t.s t.here c.in-Ok-Ok.shown t.window t.free (is_set _ c.if-not-shown.false)) (λ set. left_temporary m r.session.stands.is.by.machine c.args.space t.s t.here c.in-Ok-Ok.shown t.window t.free (is_set _ c.if-not-shown.false))).came));
       cost = (spent_around (state c.args.self.now.core).disk (state c.take_window.new.core).disk (state c.delete_unseen.new.self.core).disk (state c.sync.new.core).disk c.take_window.ensures.makes.went.sectors (let few = c.take_window.ensures.cost in omega (arith, few))
           (c.delete_unseen.ensures.bounded _ _ t.left.session) (let few = c.sync.ensures.cost in omega (arith, few)));
     }
 
-pub returns-in-Ok-sync-clause-wrote : goal.returns-in-Ok-sync-clause-wrote
-returns-in-Ok-sync-clause-wrote g c = wrote_then (wrote_then (wrote_by c.take_window.ensures.makes tt) c.delete_unseen.ensures.wrote) (wrote_by (reached_makes c.sync.ensures.waits.reaches) tt)
+pub returns-in-Ok-sync-clause-writes : goal.returns-in-Ok-sync-clause-writes
+returns-in-Ok-sync-clause-writes g c =
+    let what = call.Unmap c.args.space in
+    record {
+      wrote = wrote_then (wrote_then (wrote_by c.take_window.ensures.makes tt) c.delete_unseen.ensures.writes.wrote) (wrote_by (reached_makes c.sync.ensures.waits.reaches) tt);
+      own = only_then (only_then (only_quiet what c.take_window.ensures.makes) ((only_unmapped c.in-Ok-Ok.shown.id c.args.space c.delete_unseen.ensures.writes.own))) (only_quiet what (reached_makes c.sync.ensures.waits.reaches));
+      spares = all_then (all_then (spares_quiet c.take_window.ensures.makes) (c.delete_unseen.ensures.lasting refl)) (spares_quiet (reached_makes c.sync.ensures.waits.reaches));
+    }
 
-pub returns-in-Ok-sync-clause-stays : goal.returns-in-Ok-sync-clause-stays
-returns-in-Ok-sync-clause-stays g c = record {
-  open_still = (still_open _ _ _ _ c.delete_unseen.ensures.stays.open_still c.sync.ensures.waits.layout refl);
-  monotone = (search rules);
-  serial = (search rules);
-  layout = (c.sync.ensures.waits.layout ∙ c.delete_unseen.ensures.stays.layout ∙ c.take_window.ensures.reshapes.layout);
+pub returns-in-Ok-sync-clause-remains : goal.returns-in-Ok-sync-clause-remains
+returns-in-Ok-sync-clause-remains g c = record {
+  stays = record {
+    open_still = (still_open _ _ _ _ c.delete_unseen.ensures.remains.stays.open_still c.sync.ensures.waits.layout refl);
+    monotone = c.delete_unseen.ensures.remains.stays.monotone;
+    serial = c.delete_unseen.ensures.remains.stays.serial;
+    layout = (c.sync.ensures.waits.layout ∙ c.delete_unseen.ensures.remains.stays.layout ∙ c.take_window.ensures.reshapes.layout);
+  };
+  running = c.delete_unseen.ensures.remains.running;
 }
 
 pub returns-in-Err-sync-clause-answers : goal.returns-in-Err-sync-clause-answers
@@ -165,29 +175,35 @@ returns-in-Err-sync-clause-answers g c = λ m r.
       sound = c.in-Err-sync.ensures.fails.cause;
       passes = (passes_still m (call.Unmap c.args.space)
           (quiet_then m _ (call.Unmap c.args.space) (call.Delete c.in-Ok-Ok.shown.id) (asked_passes c.args.self.now.core c.args.self.now.volume m call.Volume r (g.met.D.Disk.in_form (disk_of c.args.self.now.core.filer)) c.take_window.ensures.makes)
-          (c.delete_unseen.ensures.passes _ _ t.left.session (left_unseen m r.session.stands.is.by.machine c.args.space t.s t.here c.in-Ok-Ok.shown t.window t.free (is_set _ c.if-not-shown.false)) (λ set. left_temporary m r.session.stands.is.by.machine c.args.space t.s t.here c.in-Ok-Ok.shown t.window t.free (is_set _ c.if-not-shown.false))) (omega arith) (hidden_alike m r.session.stands.is.by.machine c.args.space t.s t.here c.in-Ok-Ok.shown t.window t.free (is_set _ c.if-not-shown.false)) (hidden_numbers m r.session.stands.is.by.machine c.args.space t.s t.here c.in-Ok-Ok.shown t.window t.free (is_set _ c.if-not-shown.false)))
+          ((c.delete_unseen.ensures.answers _ _ t.left.session (left_unseen m r.session.stands.is.by.machine c.args.space t.s t.here c.in-Ok-Ok.shown t.window t.free (is_set _ c.if-not-shown.false)) (λ set. left_temporary m r.session.stands.is.by.machine c.args.space t.s t.here c.in-Ok-Ok.shown t.window t.free (is_set _ c.if-not-shown.false))).passes) (omega arith) (hidden_alike m r.session.stands.is.by.machine c.args.space t.s t.here c.in-Ok-Ok.shown t.window t.free (is_set _ c.if-not-shown.false)) (hidden_numbers m r.session.stands.is.by.machine c.args.space t.s t.here c.in-Ok-Ok.shown t.window t.free (is_set _ c.if-not-shown.false)))
           c.sync.ensures.waits.same);
       came = λ quiet. tt;
       cost = (spent_around (state c.args.self.now.core).disk (state c.take_window.new.core).disk (state c.delete_unseen.new.self.core).disk (state c.sync.new.core).disk c.take_window.ensures.makes.went.sectors (let few = c.take_window.ensures.cost in omega (arith, few))
           (c.delete_unseen.ensures.bounded _ _ t.left.session) (let few = c.sync.ensures.cost in omega (arith, few)));
     }
 
-pub returns-in-Err-sync-clause-wrote : goal.returns-in-Err-sync-clause-wrote
-returns-in-Err-sync-clause-wrote g c = wrote_then (wrote_then (wrote_by c.take_window.ensures.makes tt) c.delete_unseen.ensures.wrote) (wrote_by (reached_makes c.sync.ensures.waits.reaches) tt)
+pub returns-in-Err-sync-clause-writes : goal.returns-in-Err-sync-clause-writes
+returns-in-Err-sync-clause-writes g c =
+    let what = call.Unmap c.args.space in
+    record {
+      wrote = wrote_then (wrote_then (wrote_by c.take_window.ensures.makes tt) c.delete_unseen.ensures.writes.wrote) (wrote_by (reached_makes c.sync.ensures.waits.reaches) tt);
+      own = only_then (only_then (only_quiet what c.take_window.ensures.makes) ((only_unmapped c.in-Ok-Ok.shown.id c.args.space c.delete_unseen.ensures.writes.own))) (only_quiet what (reached_makes c.sync.ensures.waits.reaches));
+      spares = all_then (all_then (spares_quiet c.take_window.ensures.makes) (c.delete_unseen.ensures.lasting refl)) (spares_quiet (reached_makes c.sync.ensures.waits.reaches));
+    }
 
-pub returns-in-Err-sync-clause-stays : goal.returns-in-Err-sync-clause-stays
-returns-in-Err-sync-clause-stays g c = record {
-  open_still = (still_open _ _ _ _ c.delete_unseen.ensures.stays.open_still c.sync.ensures.waits.layout refl);
-  monotone = (search rules);
-  serial = (search rules);
-  layout = (c.sync.ensures.waits.layout ∙ c.delete_unseen.ensures.stays.layout ∙ c.take_window.ensures.reshapes.layout);
+pub returns-in-Err-sync-clause-remains : goal.returns-in-Err-sync-clause-remains
+returns-in-Err-sync-clause-remains g c = record {
+  stays = record {
+    open_still = (still_open _ _ _ _ c.delete_unseen.ensures.remains.stays.open_still c.sync.ensures.waits.layout refl);
+    monotone = c.delete_unseen.ensures.remains.stays.monotone;
+    serial = c.delete_unseen.ensures.remains.stays.serial;
+    layout = (c.sync.ensures.waits.layout ∙ c.delete_unseen.ensures.remains.stays.layout ∙ c.take_window.ensures.reshapes.layout);
+  };
+  running = c.delete_unseen.ensures.remains.running;
 }
 
 pub returns-in-Ok-sync-clause-synced : goal.returns-in-Ok-sync-clause-synced
 returns-in-Ok-sync-clause-synced g c = λ is. c.in-Ok-sync.ensures.synced
-
-pub returns-in-Err-sync-clause-counted : goal.returns-in-Err-sync-clause-counted
-returns-in-Err-sync-clause-counted g c = λ is. rose_after _ _ _ c.take_window.ensures.makes.went.faults (rose_after _ _ _ c.delete_unseen.ensures.wrote.makes.went.faults (waited_rose c.in-Err-sync.ensures.fails))
 
 pub returns-in-Ok-Err-clause-synced : goal.returns-in-Ok-Err-clause-synced
 returns-in-Ok-Err-clause-synced g c = λ is. absurd (refused_undone _ is)
@@ -197,25 +213,27 @@ returns-then-not-shown-clause-synced g c = λ is. subst (λ (x : Result Shown Re
 
 -- ---- Why it failed.
 
-pub returns-in-Err-clause-cause : goal.returns-in-Err-clause-cause
-returns-in-Err-clause-cause g c = inl c.in-Err.ensures.fails.cause
+pub returns-in-Err-clause-fails : goal.returns-in-Err-clause-fails
+returns-in-Err-clause-fails g c = fails_wider (λ h. inl h) (halted c.in-Err.ensures.fails)
 
-pub returns-in-Err-delete_unseen-clause-cause : goal.returns-in-Err-delete_unseen-clause-cause
-returns-in-Err-delete_unseen-clause-cause g c = inr (
-  c.in-Ok-Ok.shown,
-  given_so (TablesSay (state c.args.self.now.core) (λ b. IsShownAt b c.args.space)) c.in-Ok-Ok.shown c.in-Ok-Ok.field-0 c.in-Ok-Ok.field-0-is c.in-Ok-Ok.ensures.read,
-  (state c.take_window.new.core, c.take_window.ensures.reshapes, c.in-Err-delete_unseen.ensures.cause),
-)
+pub returns-in-Err-delete_unseen-clause-fails : goal.returns-in-Err-delete_unseen-clause-fails
+returns-in-Err-delete_unseen-clause-fails g c =
+    fails_after c.take_window.ensures.makes.went.faults (λ h. inr (
+      c.in-Ok-Ok.shown,
+      given_so (TablesSay (state c.args.self.now.core) (λ b. IsShownAt b c.args.space)) c.in-Ok-Ok.shown c.in-Ok-Ok.field-0 c.in-Ok-Ok.field-0-is c.in-Ok-Ok.ensures.read,
+      (state c.take_window.new.core, c.take_window.ensures.reshapes, h),
+    )) c.in-Err-delete_unseen.ensures.fails
 
-pub returns-in-Err-sync-clause-cause : goal.returns-in-Err-sync-clause-cause
-returns-in-Err-sync-clause-cause g c =
+pub returns-in-Err-sync-clause-fails : goal.returns-in-Err-sync-clause-fails
+returns-in-Err-sync-clause-fails g c =
     let v = state c.args.self.now.core in
-    let u = state c.take_window.new.core in
     let x = state c.delete_unseen.new.self.core in
     let w = state c.sync.new.core in
     let first = c.take_window.ensures.makes.went.faults in
-    let later = c.delete_unseen.ensures.wrote.makes.went.faults in
-    inl (fault_halt (BreaksWindow v c.args.self.now.core.intervals c.args.space) v x w c.in-Err-sync.halt (omega (arith, first, later)) c.in-Err-sync.ensures.fails.cause (waited_rose c.in-Err-sync.ensures.fails))
+    let second = c.delete_unseen.ensures.writes.wrote.makes.went.faults in
+    let later : v.disk.faults ≤ x.disk.faults = omega (arith, first, second) in
+    let rose = waited_rose c.in-Err-sync.ensures.fails in
+    fails_fault c.in-Err-sync.ensures.fails.cause (rose_after _ _ _ later rose) (inl (fault_halt (BreaksWindow v c.args.self.now.core.intervals c.args.space) v x w c.in-Err-sync.halt later c.in-Err-sync.ensures.fails.cause rose))
 
 -- ---- The initial state.
 
@@ -294,32 +312,10 @@ returns-in-Err-clause-missing g c = λ ss sees.
 pub returns-in-Err-delete_unseen-clause-missing : goal.returns-in-Err-delete_unseen-clause-missing
 returns-in-Err-delete_unseen-clause-missing g c = λ ss sees.
     unmap_misses ss c.args.space c.in-Ok-Ok.shown (given_so (ShowsIn ss c.args.space) c.in-Ok-Ok.shown c.in-Ok-Ok.field-0 c.in-Ok-Ok.field-0-is (c.in-Ok-Ok.ensures.seen ss sees)) (is_set _ c.if-not-shown.false)
-    (state c.take_window.new.core) (state c.delete_unseen.new.self.core) c.in-Err-delete_unseen.halt c.in-Err-delete_unseen.ensures.cause
+    (state c.take_window.new.core) (state c.delete_unseen.new.self.core) c.in-Err-delete_unseen.halt c.in-Err-delete_unseen.ensures.fails.cause
 
 pub returns-in-Err-sync-clause-missing : goal.returns-in-Err-sync-clause-missing
 returns-in-Err-sync-clause-missing g c = λ ss sees. fault_misses (missing_page (call.Unmap c.args.space) ss) c.in-Err-sync.halt c.in-Err-sync.ensures.fails.cause
-
--- ---- The space tables are seen.
-
--- ---- Which files are spared.
-
-pub returns-in-Ok-Err-clause-spares : goal.returns-in-Ok-Err-clause-spares
-returns-in-Ok-Err-clause-spares g c = spares_quiet c.take_window.ensures.makes
-
-pub returns-in-Err-clause-spares : goal.returns-in-Err-clause-spares
-returns-in-Err-clause-spares g c = spares_quiet c.take_window.ensures.makes
-
-pub returns-then-not-shown-clause-spares : goal.returns-then-not-shown-clause-spares
-returns-then-not-shown-clause-spares g c = spares_quiet c.take_window.ensures.makes
-
-pub returns-in-Err-delete_unseen-clause-spares : goal.returns-in-Err-delete_unseen-clause-spares
-returns-in-Err-delete_unseen-clause-spares g c = all_then (spares_quiet c.take_window.ensures.makes) (c.delete_unseen.ensures.lasting refl)
-
-pub returns-in-Ok-sync-clause-spares : goal.returns-in-Ok-sync-clause-spares
-returns-in-Ok-sync-clause-spares g c = all_then (all_then (spares_quiet c.take_window.ensures.makes) (c.delete_unseen.ensures.lasting refl)) (spares_quiet (reached_makes c.sync.ensures.waits.reaches))
-
-pub returns-in-Err-sync-clause-spares : goal.returns-in-Err-sync-clause-spares
-returns-in-Err-sync-clause-spares g c = all_then (all_then (spares_quiet c.take_window.ensures.makes) (c.delete_unseen.ensures.lasting refl)) (spares_quiet (reached_makes c.sync.ensures.waits.reaches))
 
 -- ---- Which windows are seen.
 
@@ -335,29 +331,4 @@ returns-in-Ok-sync-clause-windows g c = λ o k.
     let u = c.take_window.new.core in
     let w = c.delete_unseen.new.self.core in
     let taken = reshaped_on o (state old) (state u) (accepted old.filer) c.take_window.ensures.reshapes k in
-    on_then old u c.sync.new.core c.in-Ok-Ok.ensures.sees (λ ss s. c.sync.ensures.waits.still ss (c.in-Ok.ensures.windows o taken ss s))
-
--- ---- What is written.
-
-pub returns-in-Ok-Err-clause-own : goal.returns-in-Ok-Err-clause-own
-returns-in-Ok-Err-clause-own g c = only_quiet (call.Unmap c.args.space) c.take_window.ensures.makes
-
-pub returns-in-Err-clause-own : goal.returns-in-Err-clause-own
-returns-in-Err-clause-own g c = only_quiet (call.Unmap c.args.space) c.take_window.ensures.makes
-
-pub returns-then-not-shown-clause-own : goal.returns-then-not-shown-clause-own
-returns-then-not-shown-clause-own g c = only_quiet (call.Unmap c.args.space) c.take_window.ensures.makes
-
-pub returns-in-Err-delete_unseen-clause-own : goal.returns-in-Err-delete_unseen-clause-own
-returns-in-Err-delete_unseen-clause-own g c =
-    only_then (only_quiet (call.Unmap c.args.space) c.take_window.ensures.makes) ((only_unmapped c.in-Ok-Ok.shown.id c.args.space c.delete_unseen.ensures.own))
-
-pub returns-in-Ok-sync-clause-own : goal.returns-in-Ok-sync-clause-own
-returns-in-Ok-sync-clause-own g c =
-    let what = call.Unmap c.args.space in
-    only_then (only_then (only_quiet what c.take_window.ensures.makes) ((only_unmapped c.in-Ok-Ok.shown.id c.args.space c.delete_unseen.ensures.own))) (only_quiet what (reached_makes c.sync.ensures.waits.reaches))
-
-pub returns-in-Err-sync-clause-own : goal.returns-in-Err-sync-clause-own
-returns-in-Err-sync-clause-own g c =
-    let what = call.Unmap c.args.space in
-    only_then (only_then (only_quiet what c.take_window.ensures.makes) ((only_unmapped c.in-Ok-Ok.shown.id c.args.space c.delete_unseen.ensures.own))) (only_quiet what (reached_makes c.sync.ensures.waits.reaches))
+    on_then old u c.sync.new.core c.in-Ok-Ok.ensures.sees (λ ss s. c.sync.ensures.waits.still ss ((c.in-Ok.ensures.accounts o taken).windows ss s))

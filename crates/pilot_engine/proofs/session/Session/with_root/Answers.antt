@@ -15,10 +15,10 @@ returns-in-Ok-begin-clause-stands g c = λ d revealed sound.
 
 pub returns-in-Err-begin-clause-sound : goal.returns-in-Err-begin-clause-sound
 returns-in-Err-begin-clause-sound g c = λ d revealed sound.
-    c.in-Err-begin.ensures.sound d (ap (λ x. (g.D.Disk.state x).contents) c.in-Ok.ensures.over ∙ revealed) sound (c.requires.read d revealed)
+    c.in-Err-begin.ensures.begun d (ap (λ x. (g.D.Disk.state x).contents) c.in-Ok.ensures.over ∙ revealed) sound (c.requires.read d revealed)
 
 pub returns-in-Err-begin-clause-evidence_seen : goal.returns-in-Err-begin-clause-evidence_seen
-returns-in-Err-begin-clause-evidence_seen g c = rw c.into_disk.ensures c.in-Err-begin.ensures.evidence_seen
+returns-in-Err-begin-clause-evidence_seen g c = rw c.into_disk.ensures c.in-Err-begin.ensures.fails.evidence_seen
 
 pub returns-in-Err-begin-clause-left_open : goal.returns-in-Err-begin-clause-left_open
 returns-in-Err-begin-clause-left_open g c = rw c.into_disk.ensures c.in-Err-begin.ensures.left_open
@@ -49,12 +49,12 @@ returns-in-Err-clause-bounded g c = rest_none (g.D.Disk.state c.args.disk) (g.D.
 pub returns-in-Ok-begin-clause-bounded : goal.returns-in-Ok-begin-clause-bounded
 returns-in-Ok-begin-clause-bounded g c =
     rw (c.over.ensures.filer, sym c.in-Ok.ensures.over)
-    (rest_bounded (view_of c.in-Ok.opened.0).layout (accepted c.in-Ok.opened.0) (view_of c.in-Ok.opened.0).disk (view_of c.begin.new.filer).disk c.in-Ok.ensures.size c.begin.ensures.cost)
+    (rest_bounded (view_of c.in-Ok.opened.0).layout (accepted c.in-Ok.opened.0) (view_of c.in-Ok.opened.0).disk (view_of c.begin.new.filer).disk c.in-Ok.ensures.blank.size c.begin.ensures.cost)
 
 pub returns-in-Err-begin-clause-bounded : goal.returns-in-Err-begin-clause-bounded
 returns-in-Err-begin-clause-bounded g c =
     rw (c.into_disk.ensures, sym c.in-Ok.ensures.over)
-    (rest_bounded (view_of c.in-Ok.opened.0).layout (accepted c.in-Ok.opened.0) (view_of c.in-Ok.opened.0).disk (view_of c.begin.new.filer).disk c.in-Ok.ensures.size c.begin.ensures.cost)
+    (rest_bounded (view_of c.in-Ok.opened.0).layout (accepted c.in-Ok.opened.0) (view_of c.in-Ok.opened.0).disk (view_of c.begin.new.filer).disk c.in-Ok.ensures.blank.size c.begin.ensures.cost)
 
 pub returns-in-Err-clause-went : goal.returns-in-Err-clause-went
 returns-in-Err-clause-went g c = rw c.in-Err.ensures.back (went_itself (g.D.Disk.state c.args.disk))

@@ -1,4 +1,4 @@
-use Rattle.std.proofs.Common.{refl, rules, ◌≡◌}
+use Rattle.std.proofs.Common.{refl, rules, ◌≡◌, subst}
 use Rattle.swapper_kernel.specs.Maps.{id_of, pages_of}
 use Rattle.pilot_engine.proofs.EndCosts.{few_written}
 use Rattle.pilot_engine.proofs.EndLemmas.{map_clean}
@@ -13,6 +13,7 @@ use Rattle.fault_core.proofs.LackLemmas.{brought_misses}
 use Rattle.pilot_engine.proofs.EndNeverBlames.{end_blameless, label_no_table}
 use Rattle.pilot_engine.proofs.FormLemmas.{label_form}
 use Rattle.pilot_engine.proofs.HomeLemmas.{file_pages}
+use Rattle.pilot_engine.specs.Halting.{WriteHalts}
 use Rattle.pilot_engine.proofs.session.Session.write_map.Goals as goal
 
 pub returns-in-Ok-clause-clean : goal.returns-in-Ok-clause-clean
@@ -34,13 +35,16 @@ returns-in-Err-clause-cost g c =
     few_written c.id.result 0 c.pages.result c.frames-slots.result c.frames.result.now (state c.args.self.now.core).slots (state c.args.self.now.core).disk.transfers (g.D.Disk.state c.flush.new.swapper.disk).transfers
     (rw c.swapper_over-swapper.ensures.value at c.frames.ensures) c.frames-slots.ensures.count c.frames-slots.ensures.most (rw c.swapper_over-swapper.ensures.value at c.flush.ensures.cost)
 
-pub returns-in-Err-clause-evidence_seen : goal.returns-in-Err-clause-evidence_seen
-returns-in-Err-clause-evidence_seen g c = so_of_halts (fits (swapper_of c.args.self.now.core.filer) c.requires.size) (rw c.swapper_over-swapper.ensures.value at c.flush.ensures.swaps).makes c.in-Err.halt no_home (λ home none. absurd none) (rw c.swapper_over-swapper.ensures.value at c.in-Err.ensures.cause)
-
 -- ---- Why it failed.
 
-pub returns-in-Err-clause-cause : goal.returns-in-Err-clause-cause
-returns-in-Err-clause-cause g c = rw c.swapper_over-swapper.ensures.value at c.in-Err.ensures.cause
+pub returns-in-Err-clause-fails : goal.returns-in-Err-clause-fails
+returns-in-Err-clause-fails g c =
+    let cause = rw c.swapper_over-swapper.ensures.value at c.in-Err.ensures.cause in
+    record {
+      cause = cause;
+      counted = λ is. subst (WriteHalts (state c.args.self.now.core) (record (state c.args.self.now.core) { disk = g.D.Disk.state c.flush.new.swapper.disk })) is cause;
+      evidence_seen = so_of_halts (fits (swapper_of c.args.self.now.core.filer) c.requires.size) (rw c.swapper_over-swapper.ensures.value at c.flush.ensures.swaps).makes c.in-Err.halt no_home (λ home none. absurd none) cause;
+    }
 
 -- ---- What began stays a reason.
 

@@ -5,6 +5,7 @@ use Rattle.fault_core.specs.Core.{state}
 use Rattle.pilot_engine.proofs.WroteLemmas.{wrote_nothing, wrote_swapping}
 use Rattle.labelled_disk.specs.declared.layout.Layout.{Layout}
 use Rattle.file_manager.specs.Reasons.{ShowsReason}
+use Rattle.pilot_engine.proofs.FailSteps.{fails_after, fails_wider}
 use Rattle.pilot_engine.proofs.session.Session.write_maps.Goals as goal
 
 pub returns-in-Ok-write_map-clause-clean : goal.returns-in-Ok-write_map-clause-clean
@@ -21,13 +22,13 @@ returns-in-Err-write_map-clause-swaps g c = swaps_then c.write_map.ensures.swaps
 
 -- ---- Why it failed.
 
-pub returns-in-Err-clause-cause : goal.returns-in-Err-clause-cause
-returns-in-Err-clause-cause g c =
+pub returns-in-Err-clause-fails : goal.returns-in-Err-clause-fails
+returns-in-Err-clause-fails g c =
     let old = c.args.self.now.core in
-    (state old, (wrote_nothing (state old).disk (state old).slots, refl), c.in-Err.ensures.cause)
+    fails_wider (λ h. (state old, (wrote_nothing (state old).disk (state old).slots, refl), h)) c.in-Err.ensures.fails
 
-pub returns-in-Err-write_map-clause-cause : goal.returns-in-Err-write_map-clause-cause
-returns-in-Err-write_map-clause-cause g c = (state c.write_map.new.self.core, (wrote_swapping c.write_map.ensures.swaps, c.write_map.ensures.layout), c.in-Err-write_map.ensures.cause)
+pub returns-in-Err-write_map-clause-fails : goal.returns-in-Err-write_map-clause-fails
+returns-in-Err-write_map-clause-fails g c = fails_after c.write_map.ensures.swaps.makes.went.faults (λ h. (state c.write_map.new.self.core, (wrote_swapping c.write_map.ensures.swaps, c.write_map.ensures.layout), h)) c.in-Err-write_map.ensures.fails
 
 -- ---- What began stays a reason.
 
