@@ -14,7 +14,7 @@ use Rattle.cut_laws.specs.LabelsApart.{AreLabelsApart, ArePagesApart, IsAtMostPa
 use Rattle.cut_laws.specs.LeaderWrites.{WritesLeader}
 
 -- a place in two rows
-place_in : (xs ys : List DiskWrite) (k : ℕ) (x : DiskWrite) → slice_get (xs ++ ys) k ≡ Some x
+pub place_in : (xs ys : List DiskWrite) (k : ℕ) (x : DiskWrite) → slice_get (xs ++ ys) k ≡ Some x
     → ((k < length xs) × (slice_get xs k ≡ Some x)) ⊎ ((j : ℕ) × (k ≡ length xs + j) × (slice_get ys j ≡ Some x))
 place_in [] ys k x is = inr (k, let z : k ≡ 0 + k = omega arith in z, is)
 place_in (y ∷ xs) ys zero x is = inl (omega arith, is)

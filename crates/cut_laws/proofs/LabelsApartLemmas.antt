@@ -36,7 +36,7 @@ use Rattle.cut_laws.proofs.StayLemmas.{Of, shape_pairs, turn_alike}
 use Rattle.cut_laws.proofs.TurnLemmas.{turn}
 
 -- a leader makes a file
-there_by_leader : (all : Bool) (x : List Sector) (i : ℕ) (t : Sector) (id : ℕ) → HasData x i t → leads_file all id t ≡ true → (f : File) × (disk_file all x id ≡ Some f)
+pub there_by_leader : (all : Bool) (x : List Sector) (i : ℕ) (t : Sector) (id : ℕ) → HasData x i t → leads_file all id t ≡ true → (f : File) × (disk_file all x id ≡ Some f)
 there_by_leader all x i t id at leads = either (find (leads_file all id) (data_sectors x)) refl
   where
     either : (o : Option Sector) → find (leads_file all id) (data_sectors x) ≡ o → (f : File) × (disk_file all x id ≡ Some f)
@@ -55,7 +55,7 @@ module _ (now : List Sector) (write : DiskWrite) (permitted : Permitted now writ
       (data_pairs (λ s t. Alike (Of id) s.0 t.0) now after (written_long now write)
       (λ i s t low here there. turn_alike id now write i s t here (λ gives same. none (gives, sym same)) (turn now write i s t permitted low here there)))
 
-  page_quiet : gives_label write ≡ false → IsQuiet false now write
+  pub page_quiet : gives_label write ≡ false → IsQuiet false now write
   page_quiet page id = keeps_shape id (λ of. true≢false (sym of.0 ∙ page))
 
   leaves_others : LeavesOthers false (id_of now write) now write

@@ -16,14 +16,15 @@ mod NumberLemmas
 pub mod SizeLemmas
 pub mod ThereLemmas
 pub mod CommonLemmas
-mod FirstLabelLemmas
+pub mod FirstLabelLemmas
 pub mod ResizedLemmas
 mod OneCrashStateLemmas
 mod MarkedFirstLemmas
-mod ApartLemmas
-mod LeaderWriteLemmas
-mod LabelsApartLemmas
+pub mod ApartLemmas
+pub mod LeaderWriteLemmas
+pub mod LabelsApartLemmas
 mod ApartRowLemmas
+pub mod ChangeRowLemmas
 pub mod WholeLemmas
 mod WholeWriteLemmas
 mod ResizeLemmas

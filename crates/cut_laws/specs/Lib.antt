@@ -1,3 +1,4 @@
+pub mod ChangeRows
 pub mod ChangesApart
 pub mod Common
 pub mod Cut

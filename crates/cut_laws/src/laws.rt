@@ -2,6 +2,7 @@
 
 ghost use Rattle.std.specs.Prelude.{ℕ, Bool, List};
 ghost use Rattle.labelled_disk.specs.Syncing.{AreSyncs};
+ghost use Rattle.cut_laws.specs.ChangeRows.{ApartAreChangesApart, ApartLater, ApartThen, ApartWhetherFailed};
 ghost use Rattle.cut_laws.specs.ChangesApart.{ChangesApartAreOfOneCrashState};
 ghost use Rattle.cut_laws.specs.Common.{CommonStays};
 ghost use Rattle.cut_laws.specs.CutLaws.{CutLaws, WindowLaws};
@@ -67,6 +68,14 @@ pub fn one_change_is_of_one_crash_state()
 /// Where a sync was made between each two changes of files, but those of one file's size, so are those of each cut.
 pub fn changes_apart_are_of_one_crash_state()
     ensures { (with_temporary : Bool) → ChangesApartAreOfOneCrashState with_temporary }
+{}
+
+/// Changes that are apart, of the writes of one call and then of another.
+pub fn changes_of_calls_are_apart()
+    ensures apart { (with_temporary : Bool) → ApartAreChangesApart with_temporary }
+    ensures rows { (with_temporary : Bool) → ApartThen with_temporary }
+    ensures later { (with_temporary : Bool) → ApartLater with_temporary }
+    ensures failed { (with_temporary : Bool) → ApartWhetherFailed with_temporary }
 {}
 
 /// Which writes change which permanent files there are, and that syncs around their labels are syncs between changes.

@@ -1,0 +1,129 @@
+-- Changes of files with syncs between them, of calls in a row.
+use Rattle.std.proofs.Common.{◌≡◌, ◌⊎◌, inl, inr, ℕ, suc, ◌+◌, ◌<◌, Bool, false, List, ◌++◌, length, Some, sym, subst, arith}
+use Rattle.std.specs.Prelude.{slice_get, Contains}
+use Rattle.std.proofs.lemmas.Bool.{true≢false}
+use Rattle.std.proofs.lemmas.List.{length-append}
+use Rattle.labelled_disk.specs.declared.disk.DiskWrite.{DiskWrite}
+use Rattle.labelled_disk.specs.CrashState.{crash_state}
+use Rattle.labelled_disk.specs.Sectors.{Sector}
+use Rattle.labelled_disk.specs.WriteRuns.{after_writes}
+use Rattle.labelled_disk.proofs.WriteRunLemmas.{crash_state-earlier, crash_state-later}
+use Rattle.cut_laws.specs.ChangesApart.{IsLabelled, IsMark, IsQuiet, IsResize, ResizesApart}
+use Rattle.cut_laws.specs.ChangeRows.{ApartAreChangesApart, ApartLater, ApartThen, ApartWhetherFailed, AreApart, IsChangeApart}
+use Rattle.cut_laws.proofs.ApartRowLemmas.{place_in}
+
+pub apart_are_changes_apart : (all : Bool) → ApartAreChangesApart all
+apart_are_changes_apart all syncs made d writes failed apart k write here = elim (apart k write here) [
+  | inl quiet ↦ inl quiet
+  | inr (inl mark) ↦ inr (inl mark)
+  | inr (inr (inl goes)) ↦ inr (inr (inl (goes.0, goes.1, elim goes.2 [ inl has ↦ inl has | inr ended ↦ inr ended.1 ])))
+  | inr (inr (inr resizes)) ↦ inr (inr (inr resizes))
+]
+
+module _ (all : Bool) (syncs : List ℕ) (made : ℕ) (d : List Sector) (first next : List DiskWrite) (failed : Bool) (one : AreApart all syncs made d first false) (more : AreApart all syncs (made + length first) (after_writes first d) next failed) where
+  abbrev both : List DiskWrite
+  both = first ++ next
+
+  -- a write of the first row
+  early_at : (P : List Sector → Type 0) (k : ℕ) → k < length first → P (crash_state d first k) → P (crash_state d both k)
+  early_at P k below = subst P (sym (crash_state-earlier d first next k (omega (arith, below))))
+
+  inside : (k : ℕ) (write : DiskWrite) → k < length first → slice_get both k ≡ Some write → slice_get first k ≡ Some write
+  inside k write below at = elim (place_in first next k write at) [
+    | inl (low, here) ↦ here
+    | inr (j, after, here) ↦ absurd (omega (arith, below, after))
+  ]
+
+  early_resizes : (k : ℕ) → k < length first → ResizesApart all syncs made d first k → ResizesApart all syncs made d both k
+  early_resizes k below r = (
+    r.0,
+    r.1,
+    r.2,
+    r.3,
+    λ write at. early_at (λ x. IsResize all r.0 x write) k below (r.4 write (inside k write below at)),
+    λ i write past by at.
+        let low : i < length first = omega (arith, by, below) in
+        early_at (λ x. IsQuiet all x write ⊎ IsResize all r.0 x write) i low (r.5 i write past by (inside i write low at)),
+  )
+
+  early_apart : (k : ℕ) (write : DiskWrite) → k < length first → slice_get first k ≡ Some write → IsChangeApart all syncs made d both failed k write
+  early_apart k write below here = elim (one k write here) [
+    | inl quiet ↦ inl (early_at (λ x. IsQuiet all x write) k below quiet)
+    | inr (inl mark) ↦ inr (inl (mark.0, mark.1, early_at (λ x. IsMark all mark.1 x write) k below mark.2))
+    | inr (inr (inl goes)) ↦
+        inr (inr (inl (
+          goes.0,
+          (goes.1.0, early_at (λ x. IsLabelled all goes.1.0 x write) k below goes.1.1),
+          elim goes.2 [ inl has ↦ inl has | inr ended ↦ absurd (true≢false (sym ended.0)) ],
+        )))
+    | inr (inr (inr resizes)) ↦ inr (inr (inr (early_resizes k below resizes)))
+  ]
+
+  -- one of the second
+  late_at : (P : List Sector → Type 0) (j : ℕ) → P (crash_state (after_writes first d) next j) → P (crash_state d both (length first + j))
+  late_at P j = subst P (sym (crash_state-later d first next j))
+
+  moved : (j : ℕ) → Contains syncs (made + length first + j) → Contains syncs (made + (length first + j))
+  moved j has = subst (Contains syncs) (let z : made + length first + j ≡ made + (length first + j) = omega arith in z) has
+
+  past_first : (j : ℕ) (write : DiskWrite) → slice_get both (length first + j) ≡ Some write → slice_get next j ≡ Some write
+  past_first j write at = elim (place_in first next (length first + j) write at) [
+    | inl (low, here) ↦ absurd (omega (arith, low))
+    | inr (n, after, here) ↦ subst (λ (i : ℕ). slice_get next i ≡ Some write) (let z : n ≡ j = omega (arith, after) in z) here
+  ]
+
+  late_resizes : (j : ℕ) → ResizesApart all syncs (made + length first) (after_writes first d) next j → ResizesApart all syncs made d both (length first + j)
+  late_resizes j r = (
+    r.0,
+    length first + r.1,
+    let low = r.2 in omega (arith, low),
+    moved r.1 r.3,
+    λ write at. late_at (λ x. IsResize all r.0 x write) j (r.4 write (past_first j write at)),
+    λ i write past by at. elim (place_in first next i write at) [
+      | inl (low, here) ↦ absurd (omega (arith, low, past))
+      | inr (n, after, here) ↦
+          subst (λ (i : ℕ). IsQuiet all (crash_state d both i) write ⊎ IsResize all r.0 (crash_state d both i) write) (sym after)
+          (late_at (λ x. IsQuiet all x write ⊎ IsResize all r.0 x write) n (r.5 n write (omega (arith, past, after)) (omega (arith, by, after)) here))
+    ],
+  )
+
+  late_apart : (j : ℕ) (write : DiskWrite) → slice_get next j ≡ Some write → IsChangeApart all syncs made d both failed (length first + j) write
+  late_apart j write here = elim (more j write here) [
+    | inl quiet ↦ inl (late_at (λ x. IsQuiet all x write) j quiet)
+    | inr (inl mark) ↦ inr (inl (moved j mark.0, mark.1, late_at (λ x. IsMark all mark.1 x write) j mark.2))
+    | inr (inr (inl goes)) ↦
+        inr (inr (inl (
+          moved j goes.0,
+          (goes.1.0, late_at (λ x. IsLabelled all goes.1.0 x write) j goes.1.1),
+          elim goes.2 [
+            | inl has ↦ inl (subst (Contains syncs) (let z : made + length first + suc j ≡ made + suc (length first + j) = omega arith in z) has)
+            | inr ended ↦ inr (ended.0, let last = ended.1 in let long : length both ≡ length first + length next = length-append first next in omega (arith, last, long))
+          ],
+        )))
+    | inr (inr (inr resizes)) ↦ inr (inr (inr (late_resizes j resizes)))
+  ]
+
+  both_apart : AreApart all syncs made d both failed
+  both_apart k write at = elim (place_in first next k write at) [
+    | inl (below, here) ↦ early_apart k write below here
+    | inr (j, past, here) ↦ subst (λ (n : ℕ). IsChangeApart all syncs made d both failed n write) (sym past) (late_apart j write here)
+  ]
+
+pub apart_then : (all : Bool) → ApartThen all
+apart_then all syncs made d first next failed one more = both_apart all syncs made d first next failed one more
+
+pub apart_later : (all : Bool) → ApartLater all
+apart_later all syncs later made d writes failed more apart k write here = elim (apart k write here) [
+  | inl quiet ↦ inl quiet
+  | inr (inl mark) ↦ inr (inl (more (made + k) mark.0, mark.1, mark.2))
+  | inr (inr (inl goes)) ↦ inr (inr (inl (more (made + k) goes.0, goes.1, elim goes.2 [ inl has ↦ inl (more (made + suc k) has) | inr ended ↦ inr ended ])))
+  | inr (inr (inr r)) ↦ inr (inr (inr (r.0, r.1, r.2, more (made + r.1) r.3, r.4, r.5)))
+]
+
+pub apart_whether_failed : (all : Bool) → ApartWhetherFailed all
+apart_whether_failed all syncs made d writes failed apart k write here = elim (apart k write here) [
+  | inl quiet ↦ inl quiet
+  | inr (inl mark) ↦ inr (inl mark)
+  | inr (inr (inl goes)) ↦ inr (inr (inl (goes.0, goes.1, elim goes.2 [ inl has ↦ inl has | inr ended ↦ absurd (true≢false (sym ended.0)) ])))
+  | inr (inr (inr resizes)) ↦ inr (inr (inr resizes))
+]
