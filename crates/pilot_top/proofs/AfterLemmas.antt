@@ -22,6 +22,7 @@ use Rattle.pilot_top.specs.CrashStates.{Lawfully, CrashStates}
 use Rattle.pilot_top.specs.InitialState.{FromInitialState}
 use Rattle.pilot_top.specs.Sparing.{Spared}
 use Rattle.volume_root.specs.declared.root.Root.{Root}
+use Rattle.pilot_top.specs.OnePlace.{CutsHaveFiles}
 use Rattle.pilot_top.specs.Parts.{InParts, RaisesRoot, Stops}
 use Rattle.pilot_top.specs.Staying.{StaysSinceNamed}
 use Rattle.pilot_top.specs.Replied.{AreToFirst, Replied}
@@ -146,6 +147,21 @@ module _ {D : Type 0} (state : D → DiskState) (x y : D) (same : x ≡ y) where
       first = on.first;
       last = on.last;
       each = on.each;
+    })
+
+    pub cut_files_after : (a : Machine) (lines : List TraceLine) (d : List Sector) → CutsHaveFiles a lines d (lent_state m first) (lent_state n (state y)) → CutsHaveFiles a lines d first (state x)
+    cut_files_after a lines d cuts = rw same (record {
+      places = record {
+        writes = cuts.places.writes;
+        appended = record { contents = cuts.places.appended.contents; revealed = cuts.places.appended.revealed };
+        line = cuts.places.line;
+        step = cuts.places.step;
+        rise = cuts.places.rise;
+        first = cuts.places.first;
+        last = cuts.places.last;
+        each = cuts.places.each;
+      };
+      files = cuts.files;
     })
 
     -- where the writes of a run lead

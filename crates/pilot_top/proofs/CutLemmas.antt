@@ -10,7 +10,7 @@ use Rattle.labelled_disk.specs.Permitted.{Permitted}
 use Rattle.labelled_disk.specs.Root.{IsRoot, counter_of, root_page, serial_of, short_at}
 use Rattle.labelled_disk.specs.Sectors.{Sector}
 use Rattle.labelled_disk.specs.State.{DiskState}
-use Rattle.labelled_disk.specs.WriteRuns.{Appended, after_writes}
+use Rattle.labelled_disk.specs.WriteRuns.{after_writes}
 use Rattle.labelled_disk.proofs.WriteRunLemmas.{appended_then, crash_state-earlier, crash_state-end, crash_state-later}
 use Rattle.label_laws.proofs.MixedLemmas.{crash_state_long}
 use Rattle.cut_laws.specs.Honest.{ClosesAfterSync, OpensAndCloses, RewritesRoot}
@@ -28,13 +28,8 @@ use Rattle.pilot_engine.specs.Closing.{ShutAfterSync, ShutsBySync, closed_root}
 use Rattle.pilot_engine.specs.Opening.{IsUnset, KeepsFiles, SyncsFirst, WroteFirst, in_use}
 use Rattle.pilot_top.specs.CrashStates.{CrashStates, Lawfully, ShutsLast}
 use Rattle.pilot_top.specs.Cuts.{HonestCuts}
+use Rattle.pilot_top.proofs.ApartRuns.{same_writes}
 use Rattle.pilot_top.proofs.PermittedRuns.{first_flag}
-
--- writes that were made are those that are revealed
-same_writes : {a c : DiskState} (ws made writes : List DiskWrite) → Appended ws a c → a.writes ≡ Some made → c.writes ≡ Some (made ++ writes) → ws ≡ writes
-same_writes ws made writes appended is now =
-    let e : Some (made ++ ws) ≡ Some (made ++ writes) = sym (appended.revealed ∙ ap (option_map (λ (earlier : List DiskWrite). earlier ++ ws)) is) ∙ now in
-    append_cancel_left made ws writes (same_Some (made ++ ws) (made ++ writes) e)
 
 -- a sync that is revealed
 contains_sync : (c : DiskState) (syncs : List ℕ) (n : ℕ) → c.syncs ≡ Some syncs → HasSync c n → Contains syncs n

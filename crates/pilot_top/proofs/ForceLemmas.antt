@@ -1,17 +1,14 @@
 -- What the settled files of the machine have in common since the disk was synced stays where the power goes.
-use Rattle.std.proofs.Common.{◌≡◌, ℕ, suc, ◌+◌, ◌-◌, ◌<◌, ◌≤◌, Bool, true, false, ◌&&◌, List, [], ◌∷◌, map, length, Option, Some, None, refl, sym, ◌∙◌, ap, subst, arith, eqb, length-take}
-use Rattle.std.specs.Prelude.{find, option_map, slice_get, take}
+use Rattle.std.proofs.Common.{◌≡◌, ℕ, ◌+◌, ◌-◌, ◌<◌, ◌≤◌, Bool, true, false, List, [], ◌∷◌, map, length, Option, Some, None, refl, sym, ◌∙◌, ap, subst, arith, length-take}
+use Rattle.std.specs.Prelude.{option_map, slice_get, take}
 use Rattle.std.specs.List.{AllZip}
-use Rattle.std.proofs.lemmas.Bool.{and_parts}
 use Rattle.std.proofs.lemmas.List.{length-drop}
-use Rattle.std.proofs.lemmas.Option.{none-some, same_Some, slice_get_within}
+use Rattle.std.proofs.lemmas.Option.{same_Some, slice_get_within}
 use Rattle.labelled_disk.specs.declared.disk.DiskWrite.{DiskWrite}
 use Rattle.labelled_disk.specs.Ascending.{BothBy}
 use Rattle.labelled_disk.specs.CrashState.{crash_state}
 use Rattle.labelled_disk.specs.File.{File, Page, byte, file_at, size}
-use Rattle.labelled_disk.specs.FilesOn.{disk_file, file_by, files_on, leads, leads_file}
-use Rattle.labelled_disk.specs.Label.{is_file, is_permanent, leader_page}
-use Rattle.labelled_disk.specs.Layout.{data_sectors}
+use Rattle.labelled_disk.specs.FilesOn.{disk_file, files_on}
 use Rattle.labelled_disk.specs.Root.{counter_of, serial_of}
 use Rattle.labelled_disk.specs.Sectors.{Sector}
 use Rattle.labelled_disk.specs.State.{DiskState}
@@ -25,7 +22,6 @@ use Rattle.cut_laws.specs.OneCrashState.{HasUnitsOfCrashStates, IsResizedAlone}
 use Rattle.cut_laws.proofs.CommonLemmas.{file_of_shape}
 use Rattle.cut_laws.proofs.CrashStateLemmas.{get_some}
 use Rattle.cut_laws.proofs.CutLemmas.{window_laws}
-use Rattle.cut_laws.proofs.PairLemmas.{lowest}
 use Rattle.cut_laws.proofs.ResizedLemmas.{resized_of_one}
 use Rattle.cut_laws.proofs.StayLemmas.{none_appears}
 use Rattle.cut_laws.proofs.UnitLemmas.{same_units}
@@ -36,19 +32,8 @@ use Rattle.flat_machine.specs.Settled.{CellAgrees, FileAgrees, PageAgrees, settl
 use Rattle.session_words.specs.StandsFor.{RevealsSettled}
 use Rattle.session_words.proofs.SameLabelLemmas.{zip_at, zip_long, zip_looked}
 use Rattle.pilot_top.specs.CrashStates.{CrashStates, staged}
+use Rattle.pilot_top.proofs.RevealedShapes.{permanent_there}
 use Rattle.pilot_top.specs.Forcing.{AtEach, HasForced, HasNoneSettled, HasSettled, HasSettledSize, IsOfType, KeepsForced}
-
--- a file that counts is permanent
-permanent : (d : List Sector) (id : ℕ) (g : File) → disk_file false d id ≡ Some g → g.permanent ≡ true
-permanent d id g is = either (find (leads_file false id) (data_sectors d)) refl is
-  where
-    either : (o : Option Sector) → find (leads_file false id) (data_sectors d) ≡ o → option_map (file_by (data_sectors d)) (option_map (λ s. s.0) o) ≡ Some g → g.permanent ≡ true
-    either None found there = absurd (none-some g there)
-    either (Some s) found there =
-        let low = lowest (leads_file false id) (data_sectors d) s found in
-        let counts = and_parts (leads false s) (eqb s.0.id id) low.1.passes in
-        let marked = and_parts (is_file s.0 && eqb s.0.page leader_page) (is_permanent s.0) counts.0 in
-        ap (λ (f : File). f.permanent) (sym (same_Some (file_by (data_sectors d) s.0) g there)) ∙ marked.1
 
 -- cells that agree with bytes are these
 cells_are : (cells : Page) (bytes : List ℕ) → AllZip CellAgrees cells (map byte bytes) → cells ≡ map byte bytes
@@ -72,6 +57,16 @@ none_on e m id reveals is = by (file_at (files_on e) id) refl (subst (λ (o : Op
     by : (o : Option File) → file_at (files_on e) id ≡ o → BothBy FileAgrees (file_at (files_on e) id) None → disk_file false e id ≡ None
     by None found both = sym (laws.look_up false 0 0 e id) ∙ found
     by (Some g) found both = absurd (subst (λ (o : Option File). BothBy FileAgrees o None) found both)
+
+-- a page that was forced stands on the disk
+pub forced_on : (e : List Sector) (m : Machine) (id page : ℕ) (bytes : List ℕ) → RevealsSettled e m → (f : File) → HasForced id page bytes m → disk_file false e id ≡ Some f → slice_get f.pages page ≡ Some (map byte bytes)
+forced_on e m id page bytes reveals f forced is =
+    let g = settled_on e m id forced.0 reveals forced.1 in
+    let agree = g.2.pages_agree in
+    let below : page < size g.0 = let long = zip_long PageAgrees g.0.pages forced.0.pages agree in let within = slice_get_within forced.0.pages page (map byte bytes) forced.2 in omega (arith, long, within) in
+    let q = get_some g.0.pages page below in
+    ap (λ (h : File). slice_get h.pages page) (same_Some f g.0 (sym is ∙ g.1)) ∙ q.1
+    ∙ ap (λ (c : Page). Some c) (cells_are q.0 bytes (zip_at PageAgrees g.0.pages forced.0.pages agree page q.0 (map byte bytes) q.1 forced.2))
 
 module _ (m : Machine) (lines : List TraceLine) (d : List Sector) {a c : DiskState} (states : CrashStates m lines a c) (revealed : a.contents ≡ Some d) (id s k : ℕ) (e : List Sector) (ordered : s ≤ k) (few : k ≤ length states.writes)
     (cut : IsCut d states.writes s k e) where
@@ -116,13 +111,7 @@ module _ (m : Machine) (lines : List TraceLine) (d : List Sector) {a c : DiskSta
 
   -- a page that was forced stands on each of these disks
   forced_at : (page : ℕ) (bytes : List ℕ) (i : ℕ) (f : File) → HasForced id page bytes (place i) → disk_file false (now i) id ≡ Some f → slice_get f.pages page ≡ Some (map byte bytes)
-  forced_at page bytes i f forced is =
-      let g = settled_on (now i) (place i) id forced.0 (reveals i) forced.1 in
-      let agree = g.2.pages_agree in
-      let below : page < size g.0 = let long = zip_long PageAgrees g.0.pages forced.0.pages agree in let within = slice_get_within forced.0.pages page (map byte bytes) forced.2 in omega (arith, long, within) in
-      let q = get_some g.0.pages page below in
-      ap (λ (h : File). slice_get h.pages page) (same_Some f g.0 (sym is ∙ g.1)) ∙ q.1
-      ∙ ap (λ (c : Page). Some c) (cells_are q.0 bytes (zip_at PageAgrees g.0.pages forced.0.pages agree page q.0 (map byte bytes) q.1 forced.2))
+  forced_at page bytes i f = forced_on (now i) (place i) id page bytes (reveals i) f
 
   -- Where each place has it, of one type.
   module _ (kind : ℕ) (immutable : Bool) (shaped : AtEach m lines states.line states.step s k (HasSettled id kind immutable)) where
@@ -136,7 +125,7 @@ module _ (m : Machine) (lines : List TraceLine) (d : List Sector) {a c : DiskSta
         let g = settled_on (now i) (place i) id f.0 (reveals i) f.1 in
         let ids : g.0.id ≡ id = ((lowest_files.files_are_as_revealed false (now i)).revealed id g.0 g.1).1 in
         let kinds : g.0.kind ≡ kind = g.2.same_kind ∙ f.2.0 in
-        let marks : g.0.permanent ≡ true = permanent (now i) id g.0 g.1 in
+        let marks : g.0.permanent ≡ true = permanent_there (now i) id g.0 g.1 in
         let fixed : g.0.immutable ≡ immutable = g.2.same_immutable ∙ f.2.1 in (
           g.0,
           g.1,

@@ -8,9 +8,11 @@ use Rattle.file_manager.specs.Reasons.{InitialState, IsNotOlder, KeepsOn}
 use Rattle.file_manager.specs.RetoldLaws.{on_giving}
 use Rattle.pilot_engine.specs.declared.session.Session.{Session}
 use Rattle.pilot_engine.specs.Referring.{TakesCalls}
+use Rattle.pilot_top.specs.Turn.{stops_session}
 use Rattle.pilot_top.specs.Turning.{AccountsTurn, StaysInTurn, WritesTurn}
 use Rattle.pilot_top.specs.declared.turn.Turn.{Turn}
 use Rattle.pilot_top.specs.declared.turn.Turn.TheVariants as turn
+use Rattle.pilot_top.proofs.ApartRuns.{apart_none, apart_of_any}
 use Rattle.pilot_top.proofs.RootLemmas.{turns_none}
 use Rattle.pilot_top.proofs.TurnLemmas.{nothing_wrote}
 
@@ -28,4 +30,8 @@ module _ {D A : Type 0} {G : Ghosts D} (s : Session D A G) (t : Turn) where
   idle_stays ready = record { idle = λ is. refl; going = λ is. ready.running; open_still = ready.opened; layout = refl }
 
   pub idle_writes : WritesTurn t s s
-  idle_writes = record { wrote = nothing_wrote (state s.core).disk (state s.core).slots; roots = turns_none s.volume.root (state s.core).disk }
+  idle_writes = record {
+    wrote = nothing_wrote (state s.core).disk (state s.core).slots;
+    roots = turns_none s.volume.root (state s.core).disk;
+    apart = λ m is. apart_of_any (stops_session t) (apart_none (record { contents = refl; writes = refl }));
+  }

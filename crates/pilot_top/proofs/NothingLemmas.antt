@@ -1,5 +1,5 @@
 -- A command for whose words there was no memory did what its record says.
-use Rattle.std.proofs.Common.{◌≡◌, inl, inr, ℕ, zero, suc, List, [], ◌++◌, refl, sym, ◌∙◌, subst, append-nil, arith}
+use Rattle.std.proofs.Common.{◌≡◌, inl, inr, ℕ, zero, suc, true, List, [], ◌++◌, refl, sym, ◌∙◌, subst, append-nil, arith}
 use Rattle.std.proofs.lemmas.List.{append_cancel_left}
 use Rattle.std.proofs.lemmas.Option.{same_Some}
 use Rattle.labelled_disk.proofs.CallLemmas.{only_reads_itself}
@@ -26,12 +26,14 @@ use Rattle.flat_machine.specs.After.{TraceLine}
 use Rattle.pilot_top.specs.Trying.{Tried}
 use Rattle.pilot_top.specs.World.{World}
 use Rattle.pilot_top.specs.declared.status.Status.TheVariants as status
+use Rattle.pilot_top.proofs.ApartRuns.{apart_none, apart_of_any}
 use Rattle.pilot_top.proofs.CostLemmas.{nothing_spent}
 use Rattle.pilot_top.proofs.CutLemmas.{nothing_honest}
 use Rattle.pilot_top.proofs.RootLemmas.{raises_itself}
 use Rattle.volume_root.specs.RootPage.{root_in}
 use Rattle.labelled_disk.specs.Root.{root_page}
 use Rattle.pilot_top.proofs.ForceLemmas.{keeps_forced}
+use Rattle.pilot_top.proofs.OnePlaceLemmas.{cuts_have_files}
 use Rattle.pilot_top.specs.Parts.{PartMay}
 use Rattle.pilot_top.proofs.PartLemmas.{parts_none}
 use Rattle.pilot_top.proofs.PermittedRuns.{lawfully_none}
@@ -82,6 +84,10 @@ module _ (w : World) where
     stays = λ d earlier b id revealed made source file untouched. spared_stays id (reading b) d (none_spared id (reading b) d w.disk);
     stays_since = λ d earlier b revealed made source. nothing_stays (reading b) d earlier w.disk revealed made;
     forced = λ d b revealed sound source. keeps_forced (start d) (reading b) d (crash_states_before (start d) [] (reading b) (from_nothing d sound revealed)) revealed;
+    cut_files = λ d b revealed sound source.
+        cuts_have_files (start d) (reading b) d (crash_states_before (start d) [] (reading b) (from_nothing d sound revealed)) revealed (λ made syncs is have. (syncs, have)) (apart_of_any true (apart_none (record { contents = refl; writes = refl })));
+    some_cut_files = λ d revealed sound.
+        ([], cuts_have_files (start d) [] d (from_nothing d sound revealed) revealed (λ made syncs is have. (syncs, have)) (apart_of_any true (apart_none (record { contents = refl; writes = refl }))));
     stays_open = λ b source early. absurd early;
     untaken = λ b source failed some. absurd (cc failed);
     left_open = λ is. absurd (elim is [ inl long ↦ cc long | inr damaged ↦ cc damaged ]);

@@ -12,7 +12,7 @@ use Rattle.pilot_top.specs.Parts.{PartMay}
 use Rattle.pilot_top.specs.Running.{Ran}
 use Rattle.pilot_top.specs.World.{world}
 use Rattle.pilot_top.specs.declared.status.Status.{Status}
-use Rattle.pilot_top.proofs.AfterLemmas.{crash_states_after, cuts_after, damage_after, from_after, lawfully_after, none_rose_after, open_after, reads_after, replied_after, roots_after, run_after, shut_after, spared_after, spent_after, stays_after, stops_after}
+use Rattle.pilot_top.proofs.AfterLemmas.{crash_states_after, cut_files_after, cuts_after, damage_after, from_after, lawfully_after, none_rose_after, open_after, reads_after, replied_after, roots_after, run_after, shut_after, spared_after, spent_after, stays_after, stops_after}
 use Rattle.pilot_top.proofs.ForceLemmas.{keeps_forced}
 use Rattle.pilot_top.proofs.ReasonLemmas.{replied_reasoned}
 use Rattle.pilot_top.proofs.StayLemmas.{spared_stays}
@@ -40,6 +40,8 @@ module _ {D : Type 0} (state : D → DiskState) (x y : D) (same : x ≡ y) (firs
     stays = λ d earlier b id revealed made source file untouched. spared_stays id (reading b) d (spared_after state x y same first m n id (reading b) d (r.spares d earlier b id revealed made source file untouched));
     stays_since = λ d earlier b revealed made source. stays_after state x y same first m n (reading b) d (r.stays_since d earlier b revealed made source);
     forced = λ d b revealed sound source. keeps_forced (start d) (reading b) d (crash_states_after state x y same first m n (start d) (reading b) (r.crash_states d b revealed sound source)) revealed;
+    cut_files = λ d b revealed sound source. cut_files_after state x y same first m n (start d) (reading b) d (r.cut_files d b revealed sound source);
+    some_cut_files = λ d revealed sound. let some = r.some_cut_files d revealed sound in (some.0, cut_files_after state x y same first m n (start d) some.0 d some.1);
     stays_open = λ b source early. open_after state x y same (r.stays_open b source early);
     untaken = λ b source failed some. open_after state x y same (r.untaken b source failed some);
     left_open = λ is. open_after state x y same (r.left_open is);

@@ -16,6 +16,7 @@ use Rattle.pilot_engine.specs.declared.session.Session.{Session}
 use Rattle.pilot_top.specs.CrashStates.{CrashStates, ShutsLast}
 use Rattle.pilot_top.specs.Ending.{closes, halts}
 use Rattle.pilot_top.specs.Headline.{Answering, EndsEarly, IsLeftOpen, LeadsTo, RevealsDamage, line_bound}
+use Rattle.pilot_top.specs.OnePlace.{ChangesApart}
 use Rattle.pilot_top.specs.Parts.{InParts, PartMay, RaisesRoot, Stops}
 use Rattle.pilot_top.specs.Queued.{RepliesChange, WroteChange}
 use Rattle.pilot_top.specs.Replied.{Replied}
@@ -51,11 +52,13 @@ pub record LeavesDisk (s : Status) (stands : Machine → Type 0) (old new : Worl
   pub untaken : (b : List ℕ) → IsLeftOpen old.disk → Gives old b → s ≡ status.StreamFault → ¬ Gives new (rest_of b) → IsLeftOpen new.disk
   pub left_open : IsLeftOpen old.disk → (s ≡ status.Long) ⊎ (s ≡ status.Damaged) → IsLeftOpen new.disk
 
--- Over any contents, which writes were made on a volume with this root, from these frames: where the last of them is, which files they spare, and
--- which roots are among them. `hid` says of a file that no window showed it.
+-- Over any contents, which writes were made on a volume with this root, from these frames: where the last of them is, which files they spare,
+-- and which roots are among them; those of a session that stood for a machine change files apart from each other. `hid` says of a file that no
+-- window showed it.
 pub record WritesLines (s : Status) (stands : Machine → Type 0) (root : Root) (before : Slots) (hid : ℕ → Type 0) (old new : World) : Type 0 where
   pub permitted : ShutsLast old.disk new.disk
   pub syncs : (m : Machine) → stands m → ShutsBySync old.disk new.disk
+  pub apart : (m : Machine) → stands m → ChangesApart true old.disk new.disk
   pub stops : (b t : List ℕ) → Gives old b → Took old t → Stops s b new.left t new.took (SinkFailed old new) (λ k. InParts (PartMay (reading b)) k old.disk new.disk)
   pub spares : (b : List ℕ) → Gives old b → RunSpares root (reading b) old.disk before new.disk hid
   pub roots : (last : Root) × RaisesRoot root last old.disk new.disk

@@ -19,6 +19,7 @@ use Rattle.pilot_top.specs.Cuts.{HonestCuts}
 use Rattle.pilot_top.specs.CrashStates.{Lawfully, CrashStates}
 use Rattle.pilot_top.specs.Forcing.{KeepsForced}
 use Rattle.pilot_top.specs.InitialState.{FromInitialState}
+use Rattle.pilot_top.specs.OnePlace.{CutsHaveFiles}
 use Rattle.pilot_top.specs.Parts.{InParts, PartMay, RaisesRoot, Stops}
 use Rattle.pilot_top.specs.Replied.{Replied}
 use Rattle.pilot_top.specs.Sparing.{IsPermanentFile, Spared, names_file}
@@ -65,6 +66,11 @@ pub record Ran (s : Status) (before after : World) : Type 0 where
   -- And on a sound volume: a file that the machine has settled at all places since the disk was synced is in each cut, with a size that it
   -- has at one of them, and a page with the bytes that were forced; one that it has settled at none of them is not.
   pub forced : (d : List Sector) (b : List ℕ) → Holds before d → Sound d → Gives before b → KeepsForced (start d) (reading b) d before.disk after.disk
+  -- Each cut of its writes since the disk was synced has the files that the machine has settled at one place since, with types, marks and
+  -- sizes, and no other. A page has the bytes that were forced at all places where its file is settled. The trace is the one that the source
+  -- reveals, and else some trace.
+  pub cut_files : (d : List Sector) (b : List ℕ) → Holds before d → Sound d → Gives before b → CutsHaveFiles (start d) (reading b) d before.disk after.disk
+  pub some_cut_files : (d : List Sector) → Holds before d → Sound d → (lines : List TraceLine) × CutsHaveFiles (start d) lines d before.disk after.disk
   -- Where it ended before its session did, the volume is left open; so where lines are left after the one that was answered
   -- last, and where the trace is too long or the volume damaged, whatever the source reveals.
   pub stays_open : (b : List ℕ) → Gives before b → EndsEarly s (reading b) → IsLeftOpen after.disk

@@ -10,12 +10,14 @@ use Rattle.filer_kernel.specs.Evidence.{ShowsEvidence}
 use Rattle.fault_core.specs.Core.{state}
 use Rattle.file_manager.specs.Creating.{next_id}
 use Rattle.file_manager.specs.Reasons.{InitialState, KeepsOn, ShowsReason, giving}
+use Rattle.running_words.specs.Running.{Runs}
 use Rattle.running_words.specs.Session.{IsOpen, WroteIn}
 use Rattle.running_words.specs.Stages.{client_or_own}
 use Rattle.pilot_engine.specs.declared.session.Session.{Session}
 use Rattle.pilot_engine.specs.Reasons.{IsBlameless, SeesHome}
+use Rattle.pilot_top.specs.OnePlace.{ChangesApart}
 use Rattle.pilot_top.specs.Parts.{TurnsRoot}
-use Rattle.pilot_top.specs.Turn.{IsGoing, IsIdle}
+use Rattle.pilot_top.specs.Turn.{IsGoing, IsIdle, stops_session}
 use Rattle.pilot_top.specs.declared.turn.Turn.{Turn}
 use Rattle.pilot_top.specs.declared.turn.Turn.TheVariants as turn
 
@@ -46,7 +48,9 @@ module _ {D A : Type 0} {G : Ghosts D} where
     pub open_still : IsOpen (state new.core).layout new.volume
     pub layout : (state new.core).layout ≡ (state old.core).layout
 
-  -- What was written over any contents: pages and labels, and roots.
+  -- What was written over any contents: pages and labels, and roots. In a session that stood for a machine it changes files apart from each
+  -- other.
   pub record WritesTurn (t : Turn) (old new : Session D A G) : Type 0 where
     pub wrote : WroteIn client_or_own (state old.core).disk (state old.core).slots (state new.core).disk (state new.core).slots
     pub roots : TurnsRoot (IsGoing t) old.volume.root new.volume.root (state old.core).disk (state new.core).disk
+    pub apart : (m : Machine) → Runs old.core old.volume m → ChangesApart (stops_session t) (state old.core).disk (state new.core).disk

@@ -1,4 +1,4 @@
-use Rattle.std.proofs.Common.{◌≡◌, ◌≤◌, ◌^◌, ℕ, suc, length, inl, inr, ◌∙◌, refl, sym, ap, subst, arith, Some, None, Option, List, []}
+use Rattle.std.proofs.Common.{◌≡◌, ◌≤◌, ◌^◌, ℕ, suc, true, false, length, inl, inr, ◌∙◌, refl, sym, ap, subst, arith, Some, None, Option, List, []}
 use Rattle.labelled_disk.specs.declared.evidence.Evidence.{Evidence}
 use Rattle.labelled_disk.specs.declared.evidence.Halt.{Halt}
 use Rattle.labelled_disk.specs.declared.evidence.Halt.TheVariants as halt
@@ -33,6 +33,8 @@ use Rattle.pilot_top.specs.declared.last.Cause.{Cause}
 use Rattle.pilot_top.specs.declared.last.Cause.TheVariants as cause
 use Rattle.pilot_top.specs.declared.status.Status.TheVariants as status
 use Rattle.pilot_top.specs.declared.turn.Turn.TheVariants.{Halts}
+use Rattle.pilot_top.proofs.ApartLines.{ended_apart, openly_apart, still_apart}
+use Rattle.pilot_top.proofs.ApartRuns.{apart_none, apart_of_any}
 use Rattle.pilot_top.proofs.EndLemmas.{End-answering, End-prefix, End-rest, End-short}
 use Rattle.pilot_top.proofs.ExitLemmas.{halt_not_damaged, halt_evidence, three_ways, stopped_leads, takes_more, still_crash_states, still_spends, line_spends, end_spent, still_leads, line_crash_states, halt_leads, reply_leads, line_not_close, end_closed, end_unheard, end_crash_states}
 use Rattle.pilot_top.proofs.PrefixLemmas.{End-has}
@@ -101,6 +103,7 @@ turns-init g c =
           (openly_none (record { contents = refl; writes = refl }));
       spared = lines_none _ c.with_limit-lines.result c.args.session.volume.root (session_disk g c.args.session) (session_slots g c.args.session) (Hides c.args.session)
           (HasRead-none _ c.with_limit-lines.result (ap (λ p. p.taken) made) stopped);
+      apart = λ m stands. apart_none (record { contents = refl; writes = refl });
       roots = raises_itself c.args.session.volume.root (state c.args.session.core).disk;
       same_disk = went_itself (state c.args.session.core).disk;
       goes_on = inl stopped;
@@ -132,6 +135,7 @@ turns-preserved g c =
       turned = Turned-reply i.turned i.same_disk.sectors turn.0 turn.2 turn.3 turn.4 turn.5 turn.6.wrote
           (called_openly c.take_turn.ensures.writes.wrote) c.in-Ok.ensures.ok;
       spared = lines_hide (λ id still. still tt) (lines_more i.spared turn.0 turn.2 turn.4 i.goes.monotone turn.6);
+      apart = λ m stands. openly_apart false i.turned.permitted (called_openly c.take_turn.ensures.writes.wrote) i.same_disk went (i.apart m stands) (c.in-Replies.ensures.writes.apart _ (i.turned.going.stands m stands));
       roots = raises_then i.goes.monotone i.roots (c.in-Replies.ensures.writes.roots.raises tt);
       same_disk = went_then i.same_disk went;
       goes_on = elim turn.2.ends [ inl fed ↦ inl fed.1 | inr ended ↦ inr ended.3 ];
@@ -195,6 +199,7 @@ returns-in_default g c =
       writes = record {
         permitted = rw c.into_disk.ensures permitted;
         syncs = λ m stands. rw c.into_disk.ensures (openly_shuts (openly_then i.turned.permitted (called_openly c.take_turn.ensures.writes.wrote)));
+        apart = λ m stands. rw c.into_disk.ensures (apart_of_any true (openly_apart false i.turned.permitted (called_openly c.take_turn.ensures.writes.wrote) i.same_disk c.take_turn.ensures.writes.wrote.makes.went (i.apart m stands) (c.in-Replies.ensures.writes.apart _ (i.turned.going.stands m stands))));
         stops = λ b t source sink.
             let turned = Turned-revealed i.turned source sink in
             rw c.into_disk.ensures
@@ -253,6 +258,7 @@ returns-in-ReadFault g c =
       writes = record {
         permitted = rw c.into_disk-in-ReadFault.ensures permitted;
         syncs = λ m stands. rw c.into_disk-in-ReadFault.ensures (openly_shuts (openly_then i.turned.permitted (called_openly c.take_turn.ensures.writes.wrote)));
+        apart = λ m stands. rw c.into_disk-in-ReadFault.ensures (apart_of_any true (openly_apart false i.turned.permitted (called_openly c.take_turn.ensures.writes.wrote) i.same_disk c.take_turn.ensures.writes.wrote.makes.went (i.apart m stands) (c.in-ReadFault.ensures.writes.apart _ (i.turned.going.stands m stands))));
         stops = λ b t source sink.
             let turned = Turned-same {S = Sessions g} (session_disk g) (stands_of g) same (Turned-revealed i.turned source sink) in
             rw c.into_disk-in-ReadFault.ensures
@@ -350,6 +356,7 @@ returns-in-Long g c =
       writes = record {
         permitted = shuts_same there permitted;
         syncs = λ m stands. openly_shuts (openly_then (openly_then i.turned.permitted (called_openly c.take_turn.ensures.writes.wrote)) (openly_none there));
+        apart = λ m stands. apart_of_any true (still_apart (openly_then i.turned.permitted (called_openly c.take_turn.ensures.writes.wrote)) there before later (openly_apart false i.turned.permitted (called_openly c.take_turn.ensures.writes.wrote) i.same_disk c.take_turn.ensures.writes.wrote.makes.went (i.apart m stands) (c.in-Long.ensures.writes.apart _ (i.turned.going.stands m stands))));
         stops = λ b t source sink.
             let turned = Turned-same {S = Sessions g} (session_disk g) (stands_of g) same (Turned-revealed i.turned source sink) in
             let wrote = λ (k : ℕ). InParts (PartMay (reading b)) k (session_disk g c.args.session) disk in
@@ -454,6 +461,7 @@ returns-in-Halts g c =
       writes = record {
         permitted = rw c.into_disk-disk.ensures permitted;
         syncs = λ m stands. rw c.into_disk-disk.ensures (openly_shuts (openly_then i.turned.permitted (called_openly c.take_turn.ensures.writes.wrote)));
+        apart = λ m stands. rw c.into_disk-disk.ensures (openly_apart true i.turned.permitted (called_openly c.take_turn.ensures.writes.wrote) i.same_disk c.take_turn.ensures.writes.wrote.makes.went (i.apart m stands) (c.in-Halts.ensures.writes.apart _ (i.turned.going.stands m stands)));
         stops = λ b t source sink.
             let turned = Turned-revealed i.turned source sink in
             rw c.into_disk-disk.ensures
@@ -560,6 +568,9 @@ returns-in-Ends g c =
       writes = record {
         permitted = ended_last (openly_then i.turned.permitted (called_openly c.take_turn.ensures.writes.wrote)) e.writes.wrote;
         syncs = λ m stands. shuts_after (openly_then i.turned.permitted (called_openly c.take_turn.ensures.writes.wrote)) (e.stands _ (stands_still.going.stands m stands)).syncs;
+        apart = λ m stands.
+            apart_of_any true (ended_apart _ (openly_then i.turned.permitted (called_openly c.take_turn.ensures.writes.wrote)) (e.stands _ (stands_still.going.stands m stands)).stops went e.writes.wrote.went
+            (openly_apart false i.turned.permitted (called_openly c.take_turn.ensures.writes.wrote) i.same_disk c.take_turn.ensures.writes.wrote.makes.went (i.apart m stands) (c.in-Ends.ensures.writes.apart _ (i.turned.going.stands m stands))));
         stops = λ b t source sink.
             let turned = Turned-revealed stands_still source sink in
             Stops-end b t turned.going _ (λ k. InParts (PartMay (reading b)) k (session_disk g c.args.session) disk) (g.S.Source.left c.take_turn.new.source) _ c.take_turn.new.lines c.end_trace.result.0 c.in-Ends.end ended e.answers.ends

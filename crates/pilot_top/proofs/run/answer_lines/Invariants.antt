@@ -1,9 +1,11 @@
-use Rattle.std.proofs.Common.{◌≡◌, ◌⊎◌, ◌-◌, ◌^◌, ◌≤◌, Some, None}
+use Rattle.std.proofs.Common.{◌≡◌, ◌⊎◌, ◌-◌, ◌^◌, ◌≤◌, false, Some, None}
 use Rattle.trace_io.specs.declared.progress.Stop.TheVariants as stop
+use Rattle.flat_machine.specs.Machine.{Machine}
 use Rattle.swapper_kernel.specs.Goes.{Went}
 use Rattle.pilot_engine.specs.Opening.{IsUnset}
 use Rattle.pilot_engine.specs.Referring.{TakesCalls}
 use Rattle.running_words.specs.Running.{Runs}
+use Rattle.pilot_top.specs.OnePlace.{ChangesApart}
 use Rattle.pilot_top.specs.Parts.{RaisesRoot}
 use Rattle.pilot_top.specs.Sparing.{Hides}
 use Rattle.pilot_top.proofs.ReasonLemmas.{GoesOn}
@@ -21,6 +23,7 @@ invariant-turns g l = record {
       (state l.fn.session.core).disk (state l.session.core).disk;
   spared : SparedLines (g.S.Source.left l.fn.source) (g.S.Source.left l.source) l.lines l.fn.session.volume.root
       (state l.fn.session.core).disk (state l.fn.session.core).slots (state l.session.core).disk (state l.session.core).slots (Hides l.fn.session) (Hides l.session);
+  apart : (m : Machine) → Runs l.fn.session.core l.fn.session.volume m → ChangesApart false (state l.fn.session.core).disk (state l.session.core).disk;
   roots : RaisesRoot l.fn.session.volume.root l.session.volume.root (state l.fn.session.core).disk (state l.session.core).disk;
   same_disk : Went (state l.fn.session.core).disk (state l.session.core).disk;
   goes_on : (l.lines.stopped ≡ None) ⊎ (l.lines.stopped ≡ Some stop.End);

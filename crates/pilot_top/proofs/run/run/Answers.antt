@@ -1,4 +1,4 @@
-use Rattle.std.proofs.Common.{arith, ◌≡◌, ◌^◌, List, [], Some, ℕ, refl, sym, ◌∙◌}
+use Rattle.std.proofs.Common.{arith, true, ◌≡◌, ◌^◌, List, [], Some, ℕ, refl, sym, ◌∙◌}
 use Rattle.labelled_disk.specs.declared.disk.DiskWrite.{DiskWrite}
 use Rattle.labelled_disk.specs.declared.evidence.Evidence.{Evidence}
 use Rattle.labelled_disk.specs.Root.{root_page}
@@ -15,15 +15,19 @@ use Rattle.volume_root.specs.RootPage.{root_in}
 use Rattle.volume_root.specs.Sound.{Sound}
 use Rattle.pilot_top.specs.CrashStates.{CrashStates}
 use Rattle.pilot_top.specs.InitialState.{FromEachInitialState, FromInitialState}
+use Rattle.pilot_top.specs.OnePlace.{ChangesApart}
 use Rattle.pilot_top.specs.Parts.{InParts, PartMay}
 use Rattle.pilot_top.specs.Sparing.{Hides}
 use Rattle.pilot_top.specs.World.{world}
 use Rattle.pilot_top.proofs.AfterLemmas.{Stops-less}
+use Rattle.pilot_top.proofs.ApartLines.{start_apart}
+use Rattle.pilot_top.proofs.ApartRuns.{apart_after, apart_of_any}
 use Rattle.pilot_top.proofs.CostLemmas.{run_spends, start_spends}
 use Rattle.pilot_top.proofs.CutLemmas.{ran_honest, started_honest}
 use Rattle.pilot_top.proofs.ForceLemmas.{keeps_forced}
 use Rattle.pilot_top.proofs.HiddenLemmas.{hidden_first}
 use Rattle.pilot_top.proofs.LineParts.{parts_refused, parts_started}
+use Rattle.pilot_top.proofs.OnePlaceLemmas.{cuts_have_files, syncs_there}
 use Rattle.pilot_top.proofs.PermittedRuns.{ran_lawfully, started_lawfully}
 use Rattle.pilot_top.proofs.ReasonLemmas.{reason_refused, reason_started, replied_reasoned}
 use Rattle.pilot_top.proofs.RootLemmas.{raises_start, raises_then}
@@ -63,6 +67,18 @@ hides : (g : given.Over) (c : goal.After-answer_lines g) (d : List Sector) (earl
 hides g c d earlier revealed made named map id =
     hidden_first c.in-Ok.session (g.D.Disk.state c.args.disk) c.in-Ok.ensures.keeps_to c.in-Ok.ensures.sees (λ d revealed. (c.in-Ok.ensures.root d revealed).0) d named earlier
     (record { contents = revealed; writes = made; map = map }) id
+
+-- where the writes are revealed, so were the syncs at the start
+revealed_syncs : (g : given.Over) (c : goal.After-answer_lines g) (made : List DiskWrite) (syncs : List ℕ) → (g.D.Disk.state c.args.disk).writes ≡ Some made → (g.D.Disk.state c.answer_lines.result.1).syncs ≡ Some syncs
+    → (before : List ℕ) × ((g.D.Disk.state c.args.disk).syncs ≡ Some before)
+revealed_syncs g c made syncs is have = syncs_there (g.D.Disk.state c.args.disk).writes (g.D.Disk.state c.args.disk).syncs (g.met.D.Disk.sync_counts c.args.disk) made is
+
+-- start and session changed files apart
+changes_apart : (g : given.Over) (c : goal.After-answer_lines g) (d : List Sector) → (g.D.Disk.state c.args.disk).contents ≡ Some d → Sound d → ChangesApart true (g.D.Disk.state c.args.disk) (g.D.Disk.state c.answer_lines.result.1)
+changes_apart g c d revealed sound =
+    let began = begun g c d revealed sound in
+    let writes = c.answer_lines.ensures.writes in
+    apart_after true began.writes writes.permitted.writes began.appended writes.permitted.appended c.in-Ok.ensures.wrote.went.syncs writes.same_disk.syncs (start_apart (start d) began) (writes.apart (start d) (c.in-Ok.ensures.stands d revealed sound))
 
 pub returns-in-Ok : goal.returns-in-Ok
 returns-in-Ok g c =
@@ -109,6 +125,12 @@ returns-in-Ok g c =
             revealed made;
         forced = λ d b revealed sound source.
             keeps_forced (start d) (reading b) d (crash_states_then (start d) [] (reading b) (begun g c d revealed sound) (e.leaves.crash_states (start d) b (from.stands d revealed sound) source)) revealed;
+        cut_files = λ d b revealed sound source.
+            cuts_have_files (start d) (reading b) d (crash_states_then (start d) [] (reading b) (begun g c d revealed sound) (e.leaves.crash_states (start d) b (from.stands d revealed sound) source)) revealed
+            (revealed_syncs g c) (changes_apart g c d revealed sound);
+        some_cut_files = λ d revealed sound.
+            let states = some_states g c d revealed sound in
+            (states.0, cuts_have_files (start d) states.0 d states.1 revealed (revealed_syncs g c) (changes_apart g c d revealed sound));
         stays_open = λ b source early. e.leaves.stays_open b from.left_open source early;
         untaken = λ b source is some. e.leaves.untaken b from.left_open source is some;
         left_open = λ is. e.leaves.left_open from.left_open is;
@@ -146,6 +168,8 @@ returns-in-Err g c =
     let source_faults = g.S.Source.faults c.args.source.now in
     let reason = reason_refused first disk f from.reasons from.sees in
     let unbegun : (d : List Sector) → first.contents ≡ Some d → Sound d → CrashStates (start d) [] first disk = λ d revealed sound. from_start d sound revealed (from.crash_states d revealed sound.labels) in
+    let known : (made : List DiskWrite) (syncs : List ℕ) → first.writes ≡ Some made → disk.syncs ≡ Some syncs → (before : List ℕ) × (first.syncs ≡ Some before) = λ made syncs is have.
+    syncs_there first.writes first.syncs (g.met.D.Disk.sync_counts c.args.disk) made is in
     let never = not_done f s old new took _ stops in
     let refuses = unstarted_refuses f s old new took _ stops first disk from.judged from.refused from.count from.unwritten in
     let causes = unstarted_causes f s old new took _ stops first disk (IsShort (2 ^ 32)) (world first left source_faults (took old) (faults old)) (world disk left source_faults (took new) (faults new)) from.counted in
@@ -165,6 +189,9 @@ returns-in-Err g c =
         stays = λ d earlier b id revealed made source file untouched. spared_stays id (reading b) d (start_spared id (reading b) d earlier from.wrote file revealed made);
         stays_since = λ d earlier b revealed made source. start_stays (reading b) d earlier from.wrote revealed made;
         forced = λ d b revealed sound source. keeps_forced (start d) (reading b) d (crash_states_before (start d) [] (reading b) (unbegun d revealed sound)) revealed;
+        cut_files = λ d b revealed sound source.
+            cuts_have_files (start d) (reading b) d (crash_states_before (start d) [] (reading b) (unbegun d revealed sound)) revealed known (apart_of_any true (start_apart (start d) (unbegun d revealed sound)));
+        some_cut_files = λ d revealed sound. ([], cuts_have_files (start d) [] d (unbegun d revealed sound) revealed known (apart_of_any true (start_apart (start d) (unbegun d revealed sound))));
         stays_open = λ b source early. left_early f s old new took _ stops disk from.left_open (reading b) early;
         untaken = λ b source is some. absurd (never.1 is);
         left_open = λ is. left_at_start f s old new took _ stops disk from.left_open is;

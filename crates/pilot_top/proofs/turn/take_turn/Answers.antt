@@ -1,4 +1,4 @@
-use Rattle.std.proofs.Common.{◌≡◌, false, Some, None, refl, sym, ◌∙◌, subst}
+use Rattle.std.proofs.Common.{◌≡◌, true, false, Some, None, refl, sym, ◌∙◌, subst}
 use Rattle.labelled_disk.specs.declared.evidence.Halt.{Halt}
 use Rattle.labelled_disk.specs.declared.evidence.Halt.TheVariants as halt
 use Rattle.filer_kernel.specs.Evidence.{ShowsEvidence}
@@ -14,6 +14,7 @@ use Rattle.running_words.specs.Running.{Runs}
 use Rattle.pilot_engine.specs.Reasons.{IsBlameless}
 use Rattle.pilot_top.specs.declared.turn.End.TheVariants as end
 use Rattle.pilot_top.specs.declared.turn.Turn.TheVariants as turn
+use Rattle.pilot_top.proofs.ApartLines.{call_apart}
 use Rattle.pilot_top.proofs.CostLemmas.{bad_costs, call_costs}
 use Rattle.pilot_top.proofs.HiddenLemmas.{hidden_makes, hidden_still}
 use Rattle.pilot_top.proofs.IdleLemmas.{idle_accounts, idle_stays, idle_writes}
@@ -86,6 +87,9 @@ returns-in-Ok-clause-writes g c =
         raises = λ goes. raises_call root c.step.new.self.volume.root c.in-Call.call c.requires.ready.opened.valid.serial up c.step.ensures.wrote c.in-Ok.ensures.own.1;
         counts = raises_call root (counted root) c.in-Call.call c.requires.ready.opened.valid.serial (counted_up root) c.step.ensures.wrote c.step.ensures.own.0;
       };
+      apart = λ m is.
+          call_apart m c.in-Call.call false is.session.stands.is.by.machine c.in-None.ensures (c.step.ensures.answers m is).passes c.step.ensures.wrote c.in-Ok.ensures.around (c.step.ensures.resizes m is)
+          c.step.ensures.unlabelled;
     }
 
 -- the call stopped the session
@@ -143,6 +147,9 @@ returns-in-Err-clause-writes g c =
         raises = λ goes. absurd goes;
         counts = raises_call root (counted root) c.in-Call.call c.requires.ready.opened.valid.serial (counted_up root) c.step.ensures.wrote c.step.ensures.own.0;
       };
+      apart = λ m is.
+          call_apart m c.in-Call.call true is.session.stands.is.by.machine c.in-None.ensures (c.step.ensures.answers m is).passes c.step.ensures.wrote c.in-Err.ensures.around (c.step.ensures.resizes m is)
+          c.step.ensures.unlabelled;
     }
 
 -- a bad line
