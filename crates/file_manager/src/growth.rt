@@ -123,8 +123,8 @@ pub(crate) fn frames_of<D: Disk, A: Allocator>(filer: &mut Filer<D, A>) -> u32
     filer.swapper_over().frames().frames()
 }
 
-// Makes some of the next pages of a file or of the space tables, at least one and at most so many: the lowest free data
-// sector is taken, and free ones after it, they get the labels of the pages, and the file map has them.
+// Makes some of the next pages of a file or of the space tables, at least one and at most so many: a free data sector
+// is taken, and free ones after it, they get the labels of the pages, and the file map has them.
 pub(crate) fn make_run<D: Disk, A: Allocator>(
     filer: &mut Filer<D, A>,
     id: FileId,
@@ -210,7 +210,7 @@ pub(crate) fn make_run<D: Disk, A: Allocator>(
     Ok(run)
 }
 
-// Makes the pages of a file from one on up to another, in the lowest free data sectors.
+// Makes the pages of a file from one on up to another, in free data sectors.
 pub(crate) fn make_up<D: Disk, A: Allocator>(
     filer: &mut Filer<D, A>,
     id: FileId,

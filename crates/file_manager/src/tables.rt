@@ -28,7 +28,7 @@ use force_calls::discard;
 use labelled_disk::{Disk, Halt, TABLE_PAGES, TABLES};
 use std::alloc::Allocator;
 
-// Makes these pages in the lowest free data sectors, where the file map names none of them.
+// Makes these pages in free data sectors, where the file map names none of them.
 fn make_pages<D: Disk, A: Allocator>(filer: &mut Filer<D, A>) -> Result<(), Halt>
     requires size { FitsLayout (view_of filer.old) }
     ensures made { (x : List Sector) (shapes : Shapes) (spaces : List Space)
@@ -71,7 +71,7 @@ fn make_pages<D: Disk, A: Allocator>(filer: &mut Filer<D, A>) -> Result<(), Halt
     Ok(())
 }
 
-/// Makes the pages of the space tables, in the lowest free data sectors: zeros, with labels of file 3, and in the file map. What
+/// Makes the pages of the space tables, in free data sectors: zeros, with labels of file 3, and in the file map. What
 /// that might have of file 3 goes first.
 pub fn make_tables<D: Disk, A: Allocator>(filer: &mut Filer<D, A>) -> Result<(), Halt>
     requires size { FitsLayout (view_of filer.old) }

@@ -23,7 +23,7 @@ impl Run {
         self.pages < slots && self.pages <= u32::MAX - self.first
     }
 
-    /// Whether one pass over the slots costs less than looks at the pages, which are fewer all the same.
+    /// Whether one pass over the slots costs less than looks at the pages where few of these are dirty.
     pub(crate) fn is_long(&self, slots: u32) -> bool
         ensures fits { result ≡ true → self.now.first + self.now.pages < 2 ^ 32 }
         ensures fewer { result ≡ true → self.now.pages < slots }
