@@ -161,7 +161,17 @@ module _ {D : Type 0} (state : D → DiskState) (x y : D) (same : x ≡ y) where
         last = cuts.places.last;
         each = cuts.places.each;
       };
-      files = cuts.files;
+      files = λ at. cuts.files (record {
+        writes = at.writes;
+        appended = record { contents = at.appended.contents; revealed = at.appended.revealed };
+        line = at.line;
+        step = at.step;
+        rise = at.rise;
+        first = at.first;
+        last = at.last;
+        each = at.each;
+      });
+      counter = cuts.counter;
     })
 
     -- where the writes of a run lead
@@ -178,6 +188,7 @@ module _ {D : Type 0} (state : D → DiskState) (x y : D) (same : x ≡ y) where
         last = leads.1.last;
         each = leads.1.each;
       },
+      leads.2,
     )
 
     pub run_after : (s : Status) (d : List Sector) (b t : List ℕ) (left took : Option (List ℕ)) (failed : Type 0) → Run s d b left t took failed (lent_state m first) (lent_state n (state y)) → Run s d b left t took failed first (state x)

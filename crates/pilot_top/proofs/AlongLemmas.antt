@@ -42,57 +42,76 @@ by_most k l le = elim (cases_lt k l) [
 
 -- Some writes and then others.
 
+-- Where the first ones end the place is that of the others.
 module _ (P : ℕ → ℕ → List Sector → Type 0) (j i k h l g : ℕ) {a b c : DiskState} (one : Along P j i k h a b) (two : Along P k h l g b c) where
   -- the place of each of them
-  abbrev line_at : (n : ℕ) → (length one.writes < n) ⊎ (n ≤ length one.writes) → ℕ
-  line_at n (inl past) = two.line (n - length one.writes)
-  line_at n (inr few) = one.line n
+  abbrev line_at : (n : ℕ) → (n < length one.writes) ⊎ (length one.writes ≤ n) → ℕ
+  line_at n (inl few) = one.line n
+  line_at n (inr past) = two.line (n - length one.writes)
 
-  abbrev step_at : (n : ℕ) → (length one.writes < n) ⊎ (n ≤ length one.writes) → ℕ
-  step_at n (inl past) = two.step (n - length one.writes)
-  step_at n (inr few) = one.step n
+  abbrev step_at : (n : ℕ) → (n < length one.writes) ⊎ (length one.writes ≤ n) → ℕ
+  step_at n (inl few) = one.step n
+  step_at n (inr past) = two.step (n - length one.writes)
 
-  rises : (n m : ℕ) → n ≤ m → (s : (length one.writes < n) ⊎ (n ≤ length one.writes)) (t : (length one.writes < m) ⊎ (m ≤ length one.writes)) → IsBy (line_at n s) (step_at n s) (line_at m t) (step_at m t)
-  rises n m le (inl past) (inl more) = two.rise (n - length one.writes) (m - length one.writes) (omega (arith, le))
-  rises n m le (inl past) (inr few) = absurd (omega (arith, le, past, few))
-  rises n m le (inr few) (inl past) =
+  pub rises : (n m : ℕ) → n ≤ m → (s : (n < length one.writes) ⊎ (length one.writes ≤ n)) (t : (m < length one.writes) ⊎ (length one.writes ≤ m)) → IsBy (line_at n s) (step_at n s) (line_at m t) (step_at m t)
+  rises n m le (inr past) (inr more) = two.rise (n - length one.writes) (m - length one.writes) (omega (arith, le))
+  rises n m le (inr past) (inl few) = absurd (omega (arith, le, past, few))
+  rises n m le (inl few) (inr past) =
       by_then (one.line n) (one.step n) k h (two.line (m - length one.writes)) (two.step (m - length one.writes)) (one.last n) (two.first (m - length one.writes))
-  rises n m le (inr few) (inr less) = one.rise n m le
+  rises n m le (inl few) (inl less) = one.rise n m le
 
-  starts : (n : ℕ) (s : (length one.writes < n) ⊎ (n ≤ length one.writes)) → IsBy j i (line_at n s) (step_at n s)
-  starts n (inl past) =
+  pub starts : (n : ℕ) (s : (n < length one.writes) ⊎ (length one.writes ≤ n)) → IsBy j i (line_at n s) (step_at n s)
+  starts n (inr past) =
       by_then j i k h (two.line (n - length one.writes)) (two.step (n - length one.writes))
       (by_then j i (one.line 0) (one.step 0) k h (one.first 0) (one.last 0)) (two.first (n - length one.writes))
-  starts n (inr few) = one.first n
+  starts n (inl few) = one.first n
 
-  ends : (n : ℕ) (s : (length one.writes < n) ⊎ (n ≤ length one.writes)) → IsBy (line_at n s) (step_at n s) l g
-  ends n (inl past) = two.last (n - length one.writes)
-  ends n (inr few) =
+  pub ends : (n : ℕ) (s : (n < length one.writes) ⊎ (length one.writes ≤ n)) → IsBy (line_at n s) (step_at n s) l g
+  ends n (inr past) = two.last (n - length one.writes)
+  ends n (inl few) =
       by_then (one.line n) (one.step n) k h l g (one.last n) (by_then k h (two.line 0) (two.step 0) l g (two.first 0) (two.last 0))
 
-  holds : (d : List Sector) (n : ℕ) → a.contents ≡ Some d → (s : (length one.writes < n) ⊎ (n ≤ length one.writes)) → P (line_at n s) (step_at n s) (crash_state d (one.writes ++ two.writes) n)
-  holds d n revealed (inl past) =
+  pub holds : (d : List Sector) (n : ℕ) → a.contents ≡ Some d → (s : (n < length one.writes) ⊎ (length one.writes ≤ n)) → P (line_at n s) (step_at n s) (crash_state d (one.writes ++ two.writes) n)
+  holds d n revealed (inr past) =
       let at : n ≡ length one.writes + (n - length one.writes) = omega (arith, past) in
       subst (P (two.line (n - length one.writes)) (two.step (n - length one.writes))) (sym (ap (crash_state d (one.writes ++ two.writes)) at ∙ crash_state-later d one.writes two.writes (n - length one.writes)))
       (two.each (after_writes one.writes d) (n - length one.writes) (one.appended.contents ∙ ap (option_map (after_writes one.writes)) revealed))
-  holds d n revealed (inr few) = subst (P (one.line n) (one.step n)) (sym (crash_state-earlier d one.writes two.writes n few)) (one.each d n revealed)
+  holds d n revealed (inl few) = subst (P (one.line n) (one.step n)) (sym (crash_state-earlier d one.writes two.writes n (omega (arith, few)))) (one.each d n revealed)
 
-  pub along_then : Along P j i l g a c
+  abbrev pub along_then : Along P j i l g a c
   along_then = record {
     writes = one.writes ++ two.writes;
     appended = appended_then one.writes two.writes one.appended two.appended;
-    line = λ n. line_at n (cases_lt (length one.writes) n);
-    step = λ n. step_at n (cases_lt (length one.writes) n);
-    rise = λ n m le. rises n m le (cases_lt (length one.writes) n) (cases_lt (length one.writes) m);
-    first = λ n. starts n (cases_lt (length one.writes) n);
-    last = λ n. ends n (cases_lt (length one.writes) n);
-    each = λ d n revealed. holds d n revealed (cases_lt (length one.writes) n);
+    line = λ n. line_at n (cases_lt n (length one.writes));
+    step = λ n. step_at n (cases_lt n (length one.writes));
+    rise = λ n m le. rises n m le (cases_lt n (length one.writes)) (cases_lt m (length one.writes));
+    first = λ n. starts n (cases_lt n (length one.writes));
+    last = λ n. ends n (cases_lt n (length one.writes));
+    each = λ d n revealed. holds d n revealed (cases_lt n (length one.writes));
   }
+
+  -- a place of the first ones that is after a line still is, and those of the others are where they were
+  pub stays_after : (n x : ℕ) → x < one.line n → x < k → x < along_then.line n
+  stays_after n x after below = by (cases_lt n (length one.writes))
+    where
+      by : (s : (n < length one.writes) ⊎ (length one.writes ≤ n)) → x < line_at n s
+      by (inl few) = after
+      by (inr past) = elim (two.first (n - length one.writes)) [
+        | inl less ↦ omega (arith, below, less)
+        | inr same ↦ let here = same.0 in omega (arith, below, here)
+      ]
+
+  pub goes_on_at : (n : ℕ) → along_then.line (length one.writes + n) ≡ two.line n
+  goes_on_at n = by (cases_lt (length one.writes + n) (length one.writes))
+    where
+      by : (s : (length one.writes + n < length one.writes) ⊎ (length one.writes ≤ length one.writes + n)) → line_at (length one.writes + n) s ≡ two.line n
+      by (inl few) = absurd (omega (arith, few))
+      by (inr past) = ap two.line (let z : length one.writes + n - length one.writes ≡ n = omega arith in z)
 
 -- Less is said, or the same otherwise.
 
 -- another property of the same crash states
-pub along_less : (P Q : ℕ → ℕ → List Sector → Type 0) (j i k h : ℕ) {a b : DiskState} → ((l g : ℕ) (d : List Sector) → IsBy j i l g → IsBy l g k h → P l g d → Q l g d) → Along P j i k h a b → Along Q j i k h a b
+abbrev pub along_less : (P Q : ℕ → ℕ → List Sector → Type 0) (j i k h : ℕ) {a b : DiskState} → ((l g : ℕ) (d : List Sector) → IsBy j i l g → IsBy l g k h → P l g d → Q l g d) → Along P j i k h a b → Along Q j i k h a b
 along_less P Q j i k h less on = record {
   writes = on.writes;
   appended = on.appended;
@@ -105,7 +124,7 @@ along_less P Q j i k h less on = record {
 }
 
 -- wider bounds
-pub along_wider : (P : ℕ → ℕ → List Sector → Type 0) (j i j' i' k h k' h' : ℕ) {a b : DiskState} → IsBy j' i' j i → IsBy k h k' h' → Along P j i k h a b → Along P j' i' k' h' a b
+abbrev pub along_wider : (P : ℕ → ℕ → List Sector → Type 0) (j i j' i' k h k' h' : ℕ) {a b : DiskState} → IsBy j' i' j i → IsBy k h k' h' → Along P j i k h a b → Along P j' i' k' h' a b
 along_wider P j i j' i' k h k' h' below above on = record {
   writes = on.writes;
   appended = on.appended;
@@ -118,7 +137,7 @@ along_wider P j i j' i' k h k' h' below above on = record {
 }
 
 -- places that many lines on
-pub along_shifted : (P Q : ℕ → ℕ → List Sector → Type 0) (s j i k h : ℕ) {a b : DiskState} → ((l g : ℕ) (d : List Sector) → IsBy j i l g → IsBy l g k h → P l g d → Q (s + l) g d) → Along P j i k h a b
+abbrev pub along_shifted : (P Q : ℕ → ℕ → List Sector → Type 0) (s j i k h : ℕ) {a b : DiskState} → ((l g : ℕ) (d : List Sector) → IsBy j i l g → IsBy l g k h → P l g d → Q (s + l) g d) → Along P j i k h a b
     → Along Q (s + j) i (s + k) h a b
 along_shifted P Q s j i k h less on = record {
   writes = on.writes;
@@ -202,7 +221,7 @@ module _ (P : ℕ → ℕ → List Sector → Type 0) (j i k h : ℕ) {a b : Dis
   }
 
 -- on a disk that reveals the same
-pub along_same : (P : ℕ → ℕ → List Sector → Type 0) (j i k h : ℕ) {a b c : DiskState} → RevealsSame b c → Along P j i k h a b → Along P j i k h a c
+abbrev pub along_same : (P : ℕ → ℕ → List Sector → Type 0) (j i k h : ℕ) {a b c : DiskState} → RevealsSame b c → Along P j i k h a b → Along P j i k h a c
 along_same P j i k h same on = record {
   writes = on.writes;
   appended = appended_no_more on.writes on.appended same;

@@ -74,14 +74,14 @@ settled_apart m ws appended reveals = by_writes false ws appended (λ d earlier 
     keeps_apart syncs (length earlier) d ws false (λ k. m) (λ k. reveals_shapes (crash_state d ws k) m (reveals d k revealed)) (λ k id. refl))
 
 -- over any contents, bytes of pages alone
-pub pages_apart : {a c : DiskState} (ws : List DiskWrite) → Appended ws a c → (m : Machine) (c' : Call) → Passes m c' a c
+pub pages_apart : {a c : DiskState} (ws : List DiskWrite) → Appended ws a c → (m : Machine) (done : Call) → Passes m done a c
     → ((d : List Sector) (k : ℕ) (w : DiskWrite) → a.contents ≡ Some d → slice_get ws k ≡ Some w → Permitted (crash_state d ws k) w)
     → ((before writes : List DiskWrite) → a.writes ≡ Some before → c.writes ≡ Some (before ++ writes) → (k : ℕ) (w : DiskWrite) → slice_get writes k ≡ Some w → is_page_write w ≡ true)
     → ChangesApart false a c
-pages_apart {a = a} {c = c} ws appended m c' passes permitted pages = by_writes false ws appended (λ d earlier before syncs revealed made now had have.
+pages_apart {a = a} {c = c} ws appended m done passes permitted pages = by_writes false ws appended (λ d earlier before syncs revealed made now had have.
     let same : passes.writes ≡ ws = same_writes passes.writes earlier ws passes.appended made now in
-    pages_are_apart syncs (length earlier) d ws false (λ k. stage m c' (passes.steps k))
-    (λ k. subst (λ (xs : List DiskWrite). HasShapesOf (crash_state d xs k) (stage m c' (passes.steps k))) same (reveals_shapes (crash_state d passes.writes k) (stage m c' (passes.steps k)) (passes.reveals d k revealed)))
+    pages_are_apart syncs (length earlier) d ws false (λ k. stage m done (passes.steps k))
+    (λ k. subst (λ (xs : List DiskWrite). HasShapesOf (crash_state d xs k) (stage m done (passes.steps k))) same (reveals_shapes (crash_state d passes.writes k) (stage m done (passes.steps k)) (passes.reveals d k revealed)))
     (λ k w here. permitted d k w revealed here) (λ k w here. no_label w (pages earlier ws made now k w here)))
   where
     no_label : (w : DiskWrite) → is_page_write w ≡ true → gives_label w ≡ false
@@ -90,14 +90,14 @@ pages_apart {a = a} {c = c} ws appended m c' passes permitted pages = by_writes 
     no_label (Page sector wanted page) is = refl
 
 -- A call that leads over machines with the same settled files.
-module _ (m : Machine) (c' : Call) {a c : DiskState} (passes : Passes m c' a c) where
+module _ (m : Machine) (done : Call) {a c : DiskState} (passes : Passes m done a c) where
   abbrev place : ℕ → Machine
-  place k = stage m c' (passes.steps k)
+  place k = stage m done (passes.steps k)
 
   reveals_at : (d : List Sector) → a.contents ≡ Some d → (k : ℕ) → HasShapesOf (crash_state d passes.writes k) (place k)
   reveals_at d revealed k = reveals_shapes (crash_state d passes.writes k) (place k) (passes.reveals d k revealed)
 
-  pub passes_keep : ((i j : ℕ) → KeepsShapes (stage m c' i) (stage m c' j)) → ChangesApart false a c
+  pub passes_keep : ((i j : ℕ) → KeepsShapes (stage m done i) (stage m done j)) → ChangesApart false a c
   passes_keep keeps = by_writes false passes.writes passes.appended (λ d earlier before syncs revealed made now had have.
       keeps_apart syncs (length earlier) d passes.writes false place (reveals_at d revealed) (λ k. keeps (passes.steps k) (passes.steps (suc k))))
 
@@ -109,13 +109,13 @@ module _ (m : Machine) (c' : Call) {a c : DiskState} (passes : Passes m c' a c) 
         subst (λ (xs : List DiskWrite). (k : ℕ) (w : DiskWrite) → slice_get xs k ≡ Some w → Permitted (crash_state d xs k) w) same (λ k w here. permitted d k w revealed here)
 
     -- one file appears, goes or gets a mark
-    pub passes_mark : (failed : Bool) (id : ℕ) → ((i j : ℕ) → i ≤ j → ChangesMarks id (stage m c' i) (stage m c' j)) → SyncsAround failed a c → ChangesApart failed a c
+    pub passes_mark : (failed : Bool) (id : ℕ) → ((i j : ℕ) → i ≤ j → ChangesMarks id (stage m done i) (stage m done j)) → SyncsAround failed a c → ChangesApart failed a c
     passes_mark failed id marks around = by_writes failed passes.writes passes.appended (λ d earlier before syncs revealed made now had have.
         marks_are_apart syncs (length earlier) d passes.writes failed place (reveals_at d revealed) (may d earlier revealed made now) id
         (λ k. marks (passes.steps k) (passes.steps (suc k)) (passes.rise k (suc k) (omega arith))) (around.around d earlier passes.writes before syncs revealed made now had have))
 
     -- one gets another size
-    pub passes_size : (id : ℕ) → ((i : ℕ) → Resizes id m (stage m c' i)) → ((b : BareFile) → settled_shape m id ≡ Some b → LabelsAfterSync a c) → ChangesApart false a c
+    pub passes_size : (id : ℕ) → ((i : ℕ) → Resizes id m (stage m done i)) → ((b : BareFile) → settled_shape m id ≡ Some b → LabelsAfterSync a c) → ChangesApart false a c
     passes_size id sizes after = by_writes false passes.writes passes.appended (λ d earlier before syncs revealed made now had have.
         sizes_are_apart syncs (length earlier) d passes.writes false place (reveals_at d revealed) (may d earlier revealed made now) id m
         (λ k. sizes (passes.steps k)) (λ b is k w here gives. (after b is).after earlier passes.writes before syncs made now had have k w here (no_page w gives)))

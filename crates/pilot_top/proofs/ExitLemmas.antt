@@ -8,6 +8,7 @@ use Rattle.labelled_disk.specs.declared.evidence.Halt.TheVariants as halt
 use Rattle.flat_machine.specs.declared.call.Reply.{Reply}
 use Rattle.flat_machine.specs.After.{TraceLine, after}
 use Rattle.flat_machine.specs.Machine.{Machine}
+use Rattle.swapper_kernel.specs.Goes.{Went}
 use Rattle.trace_io.specs.Course.{HasRead}
 use Rattle.trace_io.specs.Lines.{TakesLine}
 use Rattle.trace_io.specs.Progress.{Progress}
@@ -17,7 +18,7 @@ use Rattle.session_words.specs.StandsFor.{RevealsSettled}
 use Rattle.running_words.specs.Bound.{CostsOther}
 use Rattle.pilot_engine.specs.Closing.{HasShut, IsStop, Throughout}
 use Rattle.pilot_top.specs.Ending.{closes, halts}
-use Rattle.pilot_top.specs.Headline.{LeadsTo}
+use Rattle.pilot_top.specs.Headline.{HasFilesAt, LeadsTo}
 use Rattle.pilot_top.specs.CrashStates.{CrashStates}
 use Rattle.pilot_top.specs.Stopping.{status_of}
 use Rattle.pilot_top.specs.Turn.{Answers, EndsTrace}
@@ -28,12 +29,13 @@ use Rattle.pilot_top.specs.declared.turn.End.TheVariants as end
 use Rattle.pilot_top.proofs.ClosedTwice.{shut_again}
 use Rattle.pilot_top.proofs.CostLemmas.{Spends}
 use Rattle.pilot_top.proofs.EndLemmas.{End-halts, End-closes}
-use Rattle.pilot_top.proofs.PrefixLemmas.{End-after, ended_by}
+use Rattle.pilot_top.proofs.PrefixLemmas.{End-after, ended_by, ended_tail}
 use Rattle.pilot_top.proofs.PlaceLemmas.{files_end, line_leads}
 use Rattle.pilot_top.proofs.RestLemmas.{not_closed}
 use Rattle.pilot_top.proofs.StagedLemmas.{after_then}
+use Rattle.pilot_top.proofs.WaitedLemmas.{Reached, reached_before, waited_later}
 use Rattle.pilot_top.proofs.TopLemmas.{last_of, none-push}
-use Rattle.pilot_top.proofs.TurnedLemmas.{Made, Turned, ended_crash_states, more_costs, more_crash_states, of_reading, spends_reading, end_spends_reading, leads_of_begun, leads_of_reading}
+use Rattle.pilot_top.proofs.TurnedLemmas.{Holds, Made, Turned, ended_crash_states, ended_reached, more_reached, more_costs, more_crash_states, of_reading, spends_reading, end_spends_reading, leads_of_begun, leads_of_reading}
 
 -- no session that stopped is done, or was stopped by a stream
 pub halt_not_done : (why : Halt) (s : Status) → s ≡ status_of why → s ≢ status.Done
@@ -73,7 +75,7 @@ module _ (m : Machine) {x : List ℕ} {b t u : Option (List ℕ)} {p : Progress}
 
   -- nothing was done since the last reply
   pub still_crash_states : CrashStates m (reading x) old mid
-  still_crash_states = of_reading m turned.going.read (turned.along m is)
+  still_crash_states = of_reading m turned.going.read (turned.along m is).0
 
   pub still_spends : Spends (reading x) old mid
   still_spends = spends_reading m turned.going.read old mid (turned.cost m is)
@@ -86,26 +88,27 @@ module _ (m : Machine) {x : List ℕ} {b t u : Option (List ℕ)} {p : Progress}
     read_more : HasRead (Some x) c q (lines ++ line ∷ [])
     read_more = HasRead-line (Some x) b c p q lines line turned.going.read none takes goes
 
-    pub line_crash_states : {new : DiskState} → Made now line mid new → CrashStates m (reading x) old new
+    pub line_crash_states : {going : Type 0} {new : DiskState} → Made going now line mid new → CrashStates m (reading x) old new
     line_crash_states made = of_reading m read_more (more_crash_states turned made m is)
 
-    pub line_spends : {new : DiskState} → mid.sectors ≡ old.sectors → Made now line mid new → Spends (reading x) old new
+    pub line_spends : {going : Type 0} {new : DiskState} → mid.sectors ≡ old.sectors → Made going now line mid new → Spends (reading x) old new
     line_spends {new = new} same made = spends_reading m read_more old new (more_costs turned same made m is)
 
     -- it has no reply
-    pub halt_leads : {new : DiskState} → Made now line mid new → (i : ℕ) × LeadsTo m (reading x) old new (length lines) i
-    halt_leads {new = new} made =
+    pub halt_leads : {going : Type 0} {new : DiskState} → Went mid new → Made going now line mid new → (i : ℕ) × LeadsTo m (reading x) old new (length lines) i
+    halt_leads {new = new} went made =
         let some = line_leads (last_of m lines) line (made (last_of m lines) (turned.going.stands m is)).0 in
-        (some.0, leads_of_begun m lines line read_more (turned.along m is) some.0 some.1)
+        let reached = turned.along m is in
+        (some.0, leads_of_begun m lines line read_more reached.0 (waited_later m lines (length lines) reached.0.writes reached.0.line old went reached.1) some.0 some.1)
 
     -- it has this reply
-    pub reply_leads : {then : Machine → Type 0} {r : Reply} (new : DiskState) → Made now line mid new → Answers now then line r → ((n : Machine) → then n → (e : List Sector) → new.contents ≡ Some e → RevealsSettled e n)
+    pub reply_leads : {then : Machine → Type 0} {r : Reply} (new : DiskState) → Holds then mid new → Made (Unit {0}) now line mid new → Answers now then line r → ((n : Machine) → then n → (e : List Sector) → new.contents ≡ Some e → RevealsSettled e n)
         → LeadsTo m (reading x) old new (length (lines ++ line ∷ [])) 0
-    reply_leads {then = then} new made answers reveals =
+    reply_leads {then = then} new holds made answers reveals =
         leads_of_reading m read_more
         (files_end m (lines ++ line ∷ []) new
         (reveals (last_of m (lines ++ line ∷ [])) (subst then (sym (after_then m lines (line ∷ []))) (answers.next (last_of m lines) (turned.going.stands m is) goes))))
-        (more_crash_states turned made m is)
+        (more_reached turned holds answers goes made m is)
 
     -- and it doesn't end the trace
     pub line_not_close : c ≡ Some (rest_of x) → closes (reading x) ≡ true → ⊥
@@ -115,8 +118,8 @@ module _ (m : Machine) {x : List ℕ} {b t u : Option (List ℕ)} {p : Progress}
 
   -- the session is ended
   module _ (new : DiskState) where
-    pub stopped_leads : ((e : List Sector) → new.contents ≡ Some e → RevealsSettled e (last_of m lines)) → Throughout (IsStop (last_of m lines)) mid new → LeadsTo m (reading x) old new (length lines) 0
-    stopped_leads revealed stops = leads_of_reading m turned.going.read (files_end m lines new revealed) (ended_crash_states turned m is stops)
+    pub stopped_leads : Went mid new → ((e : List Sector) → new.contents ≡ Some e → RevealsSettled e (last_of m lines)) → Throughout (IsStop (last_of m lines)) mid new → LeadsTo m (reading x) old new (length lines) 0
+    stopped_leads went revealed stops = leads_of_reading m turned.going.read (files_end m lines new revealed) (ended_reached turned m is went stops)
 
     pub end_crash_states : Throughout (IsStop (last_of m lines)) mid new → CrashStates m (reading x) old new
     end_crash_states stops = of_reading m turned.going.read (ended_crash_states turned m is stops)
@@ -126,6 +129,12 @@ module _ (m : Machine) {x : List ℕ} {b t u : Option (List ℕ)} {p : Progress}
 
     -- at the trace's end
     module _ (how : End) (c : Option (List ℕ)) (q : Progress) (ended : EndsTrace how b c p q) where
+      pub done_leads : Went mid new → HasFilesAt m (reading x) new (length (reading x)) 0 → Throughout (IsStop (last_of m lines)) mid new → LeadsTo m (reading x) old new (length (reading x)) 0
+      done_leads went has stops =
+          let tail = ended_tail m x b t u p first now turned.going how c q ended in
+          let reached : Reached m (reading x) old new = subst (λ (all : List TraceLine). Reached m all old new) (sym tail.1) (reached_before m lines tail.0 (tail.2 (last_of m lines)) (ended_reached turned m is went stops)) in
+          (has, reached.0, reached.1)
+
       end_shut : how ≢ end.Halt → (how ≢ end.Halt → HasShut (last_of m lines) new) → HasShut (after m (reading x) (length (reading x))) new
       end_shut other shut = subst (λ (n : Machine). HasShut n new) (sym (End-after m x b t u p first now turned.going how c q ended)) (by how other (shut other))
         where

@@ -178,6 +178,6 @@ module _ (m : Machine) (lines : List TraceLine) (d : List Sector) {a c : DiskSta
 pub keeps_forced : (m : Machine) (lines : List TraceLine) (d : List Sector) {a c : DiskState} → CrashStates m lines a c → a.contents ≡ Some d → KeepsForced m lines d a c
 keeps_forced m lines d states revealed = record {
   places = states;
-  files = λ id kind s k immutable e ordered few cut shaped. kept m lines d states revealed id s k e ordered few cut kind immutable shaped;
-  no_other = λ id s k e ordered few cut each. none_in_cut m lines d states revealed id s k e ordered few cut each;
+  files = λ at id kind s k immutable e ordered few cut shaped. kept m lines d at revealed id s k e ordered few cut kind immutable shaped;
+  no_other = λ at id s k e ordered few cut each. none_in_cut m lines d at revealed id s k e ordered few cut each;
 }

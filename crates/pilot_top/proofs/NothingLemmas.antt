@@ -85,9 +85,13 @@ module _ (w : World) where
     stays_since = λ d earlier b revealed made source. nothing_stays (reading b) d earlier w.disk revealed made;
     forced = λ d b revealed sound source. keeps_forced (start d) (reading b) d (crash_states_before (start d) [] (reading b) (from_nothing d sound revealed)) revealed;
     cut_files = λ d b revealed sound source.
-        cuts_have_files (start d) (reading b) d (crash_states_before (start d) [] (reading b) (from_nothing d sound revealed)) revealed (λ made syncs is have. (syncs, have)) (apart_of_any true (apart_none (record { contents = refl; writes = refl })));
-    some_cut_files = λ d revealed sound.
-        ([], cuts_have_files (start d) [] d (from_nothing d sound revealed) revealed (λ made syncs is have. (syncs, have)) (apart_of_any true (apart_none (record { contents = refl; writes = refl }))));
+        cuts_have_files (start d) (reading b) d (crash_states_before (start d) [] (reading b) (from_nothing d sound revealed)) revealed (λ made syncs is have. (syncs, have)) (apart_of_any true (apart_none (record { contents = refl; writes = refl })))
+        refl (lawfully_none (record { contents = refl; writes = refl })) (root_in (root_page d), raises_itself (root_in (root_page d)) w.disk);
+    some_cut_files = λ d revealed sound. (
+      [],
+      cuts_have_files (start d) [] d (from_nothing d sound revealed) revealed (λ made syncs is have. (syncs, have)) (apart_of_any true (apart_none (record { contents = refl; writes = refl })))
+          refl (lawfully_none (record { contents = refl; writes = refl })) (root_in (root_page d), raises_itself (root_in (root_page d)) w.disk),
+    );
     stays_open = λ b source early. absurd early;
     untaken = λ b source failed some. absurd (cc failed);
     left_open = λ is. absurd (elim is [ inl long ↦ cc long | inr damaged ↦ cc damaged ]);

@@ -1,5 +1,5 @@
 -- Each cut of a run has the settled files of the machine at one place of the trace.
-use Rattle.std.proofs.Common.{◌≡◌, ℕ, true, false, List, ◌++◌, map, length, Option, Some, None, refl, sym, ◌∙◌, ap}
+use Rattle.std.proofs.Common.{◌≡◌, ℕ, ◌≤◌, true, false, List, ◌++◌, map, length, Option, Some, None, refl, sym, ◌∙◌, ap, subst, arith}
 use Rattle.std.specs.Prelude.{is_some, option_map, slice_get}
 use Rattle.std.proofs.lemmas.Bool.{true≢false}
 use Rattle.std.proofs.lemmas.Option.{none-some, same_Some, slice_get_within}
@@ -7,12 +7,12 @@ use Rattle.labelled_disk.specs.declared.disk.DiskWrite.{DiskWrite}
 use Rattle.labelled_disk.specs.CrashState.{crash_state}
 use Rattle.labelled_disk.specs.File.{File, Page, byte, file_at}
 use Rattle.labelled_disk.specs.FilesOn.{disk_file}
-use Rattle.labelled_disk.specs.Root.{counter_of, serial_of}
+use Rattle.labelled_disk.specs.Root.{counter_of, root_page, serial_of}
 use Rattle.labelled_disk.specs.Sectors.{Sector}
 use Rattle.labelled_disk.specs.State.{DiskState}
 use Rattle.labelled_disk.specs.Syncing.{RevealsSyncs}
 use Rattle.label_laws.specs.Shape.{bare_file}
-use Rattle.cut_laws.specs.Cut.{unit}
+use Rattle.cut_laws.specs.Cut.{unit, AtSome, IsCut}
 use Rattle.cut_laws.specs.OneCrashState.{AreFilesWhole, FilesOfOneCrashState}
 use Rattle.cut_laws.proofs.ApartLemmas.{changes_apart}
 use Rattle.cut_laws.proofs.ChangeRowLemmas.{apart_are_changes_apart}
@@ -22,10 +22,15 @@ use Rattle.flat_machine.specs.After.{TraceLine}
 use Rattle.flat_machine.specs.Machine.{Machine}
 use Rattle.flat_machine.specs.Settled.{settled}
 use Rattle.session_words.specs.StandsFor.{RevealsSettled}
-use Rattle.pilot_top.specs.CrashStates.{CrashStates, staged}
+use Rattle.volume_root.specs.declared.root.Root.{Root}
+use Rattle.volume_root.specs.RootPage.{root_in}
+use Rattle.pilot_top.specs.CrashStates.{CrashStates, Lawfully, staged}
 use Rattle.pilot_top.specs.Forcing.{AtEach}
-use Rattle.pilot_top.specs.OnePlace.{ChangesApart, CutsHaveFiles, ForcesIfThere, IsOfOnePlace}
+use Rattle.pilot_top.specs.OnePlace.{ChangesApart, CutsHaveFiles, ForcesIfThere, HasCounterAt, IsAboveFiles, IsOfOnePlace}
+use Rattle.pilot_top.specs.Parts.{RaisesRoot}
 use Rattle.pilot_top.proofs.ForceLemmas.{forced_on}
+use Rattle.pilot_top.proofs.GivenLemmas.{above_files, numbers_of_one}
+use Rattle.pilot_top.proofs.RaisedLemmas.{cuts_go_on}
 use Rattle.pilot_top.proofs.RevealedShapes.{reveals_shapes}
 
 -- where the writes are revealed, the syncs are
@@ -55,6 +60,12 @@ module _ (m : Machine) (lines : List TraceLine) (d : List Sector) {a c : DiskSta
           absurd (none-some (bare_file g) (sym (reveals_shapes (now i) (place i) (reveals i) id ∙ ap (λ (o : Option File). option_map bare_file o) none) ∙ ap (λ (o : Option File). option_map bare_file o) file))
       by (Some f) found = forced_on (now i) (place i) id page bytes (reveals i) g (f, found, forces f found) file
 
+  -- the machine's counter, before the line or after it
+  has_counter : (s k : ℕ) (e : List Sector) → s ≤ k → k ≤ length states.writes → IsCut d states.writes s k e → AtSome s k (λ i. HasCounterAt m lines (states.line i) (counter_of e))
+  has_counter s k e ordered few cut =
+      let some = numbers_of_one d states.writes s k e ordered few cut in
+      (some.0, some.1, some.2, subst (HasCounterAt m lines (states.line some.0)) (sym some.3.1) (states.each d some.0 revealed).counter)
+
   module _ (s k : ℕ) (e : List Sector) (one : FilesOfOneCrashState false d states.writes s k e) where
     has_bytes : (id page : ℕ) (f : File) (bytes : List ℕ) → disk_file false e id ≡ Some f → AtEach m lines states.line states.step s k (ForcesIfThere id page bytes) → slice_get f.pages page ≡ Some (map byte bytes)
     has_bytes id page f bytes file each =
@@ -65,22 +76,30 @@ module _ (m : Machine) (lines : List TraceLine) (d : List Sector) {a c : DiskSta
         sym unit_there.4
         ∙ ap (unit u) (same_Some unit_there.2 (map byte bytes) (sym unit_there.3 ∙ forced_if_there id page bytes some.0 unit_there.0 (each some.0 some.1 some.2) unit_there.1))))
 
-    of_one_place : IsOfOnePlace m lines states.line states.step s k e
-    of_one_place = record {
+    of_one_place : AtSome s k (λ i. HasCounterAt m lines (states.line i) (counter_of e)) → IsAboveFiles e → IsOfOnePlace m lines d states.writes states.line states.step s k e
+    of_one_place counter above = record {
       place =
           let some = one.shapes in
           (some.0, some.1, some.2, λ id. some.3 id ∙ reveals_shapes (now some.0) (place some.0) (reveals some.0) id);
       bytes = has_bytes;
+      units = one.pages;
+      counter = counter;
+      above = above;
     }
 
 -- the changes of its files are apart
 pub cuts_have_files : (m : Machine) (lines : List TraceLine) (d : List Sector) {a c : DiskState} → CrashStates m lines a c → a.contents ≡ Some d
-    → ((made : List DiskWrite) (syncs : List ℕ) → a.writes ≡ Some made → c.syncs ≡ Some syncs → (before : List ℕ) × (a.syncs ≡ Some before)) → ChangesApart true a c → CutsHaveFiles m lines d a c
-cuts_have_files m lines d {a = a} {c = c} states revealed known changes = record {
+    → ((made : List DiskWrite) (syncs : List ℕ) → a.writes ≡ Some made → c.syncs ≡ Some syncs → (before : List ℕ) × (a.syncs ≡ Some before)) → ChangesApart true a c
+    → m.serial ≡ serial_of d → Lawfully a c → (last : Root) × RaisesRoot (root_in (root_page d)) last a c → CutsHaveFiles m lines d a c
+cuts_have_files m lines d {a = a} {c = c} states revealed known changes serial lawful raises = record {
   places = states;
-  files = λ made syncs is have k s e few since cut.
+  files = λ at made syncs is have k s e few since cut.
       let before = known made syncs is have in
-      let wrote : c.writes ≡ Some (made ++ states.writes) = states.appended.revealed ∙ ap (option_map (λ (xs : List DiskWrite). xs ++ states.writes)) is in
-      let apart = apart_are_changes_apart false syncs (length made) d states.writes true (changes.apart d made states.writes before.0 syncs revealed is wrote before.1 have) in
-      of_one_place m lines d states revealed s k e (changes_apart false d (length made) states.writes syncs (λ j low. whole m lines d states revealed j) apart k s e few since cut);
+      let wrote : c.writes ≡ Some (made ++ at.writes) = at.appended.revealed ∙ ap (option_map (λ (xs : List DiskWrite). xs ++ at.writes)) is in
+      let apart = apart_are_changes_apart false syncs (length made) d at.writes true (changes.apart d made at.writes before.0 syncs revealed is wrote before.1 have) in
+      let order = since.by_then in
+      let one = changes_apart false d (length made) at.writes syncs (λ j low. whole m lines d at revealed j) apart k s e few since cut in
+      of_one_place m lines d at revealed s k e one (has_counter m lines d at revealed s k e (omega (arith, order)) few cut)
+      (above_files d at.writes (length made) syncs apart k s few since (λ i. (reveals m lines d at revealed i).right) m.serial (λ i. (at.each d i revealed).same_serial) e cut one.shapes);
+  counter = cuts_go_on m lines d states revealed serial lawful raises;
 }

@@ -1,5 +1,5 @@
 -- What the disk has at a place of a trace.
-use Rattle.std.proofs.Common.{◌≡◌, inl, inr, ℕ, ◌+◌, ◌≤◌, List, [], ◌∷◌, ◌++◌, length, Some, sym, subst, arith}
+use Rattle.std.proofs.Common.{◌≡◌, inl, inr, ℕ, ◌+◌, ◌<◌, ◌≤◌, refl, List, [], ◌∷◌, ◌++◌, length, Some, sym, subst, arith}
 use Rattle.labelled_disk.specs.Sectors.{Sector}
 use Rattle.labelled_disk.specs.State.{DiskState}
 use Rattle.flat_machine.specs.After.{TraceLine, after}
@@ -9,6 +9,8 @@ use Rattle.pilot_engine.specs.Closing.{IsStop, Throughout}
 use Rattle.pilot_top.specs.Headline.{HasFilesAt, LeadsTo}
 use Rattle.pilot_top.specs.CrashStates.{Along, IsBy, IsCrashState, CrashStates, LineCrashStates, staged, steps_of}
 use Rattle.pilot_top.proofs.AlongLemmas.{along_last, along_less, along_shifted, along_then, along_throughout, along_to_last, along_wider, by_equal, by_itself, by_then}
+use Rattle.pilot_top.specs.Waiting.{HasWaited}
+use Rattle.pilot_top.proofs.WaitedLemmas.{waited_none, waited_then, waits_before}
 use Rattle.pilot_top.proofs.StagedLemmas.{crash_state_after, crash_state_before, from_prefix, staged_before, staged_after, staged_end, steps_before, steps_after}
 
 -- More lines.
@@ -33,6 +35,11 @@ within_line : (l g h : ℕ) → IsBy l g 0 h → (l ≡ 0) × (g ≤ h)
 within_line l g h (inl less) = absurd (omega (arith, less))
 within_line l g h (inr same) = same
 
+-- the crash states of one line, up to the last
+line_on : {m : Machine} {line : TraceLine} {a b : DiskState} (on : LineCrashStates m line a b) → on.line (length on.writes) ≡ 0 → Along (IsCrashState m (line ∷ [])) 0 0 0 (on.step (length on.writes)) a b
+line_on {m = m} {line = line} {a = a} {b = b} on first =
+    subst (λ (l : ℕ). Along (IsCrashState m (line ∷ [])) 0 0 l (on.step (length on.writes)) a b) first (along_to_last (IsCrashState m (line ∷ [])) 0 0 0 (steps_of m (Some line)) on)
+
 -- of the crash states of one line, the last is the place to which its writes lead
 pub line_leads : (m : Machine) (line : TraceLine) {a b : DiskState} → LineCrashStates m line a b → (i : ℕ) × LeadsTo m (line ∷ []) a b 0 i
 line_leads m line {a = a} {b = b} on =
@@ -41,13 +48,14 @@ line_leads m line {a = a} {b = b} on =
       on.step end,
       (
         (here.1, λ e revealed. subst (λ (l : ℕ). RevealsSettled e (staged m (line ∷ []) l (on.step end))) here.0 (along_last (IsCrashState m (line ∷ [])) 0 0 0 (steps_of m (Some line)) on e revealed).revealed),
-        subst (λ (l : ℕ). Along (IsCrashState m (line ∷ [])) 0 0 l (on.step end) a b) here.0 (along_to_last (IsCrashState m (line ∷ [])) 0 0 0 (steps_of m (Some line)) on),
+        line_on on here.0,
+        waited_none m (line ∷ []) (line_on on here.0).writes (line_on on here.0).line a b,
       ),
     )
 
 -- where no line was read, they lead nowhere
 pub none_leads : (m : Machine) {a b : DiskState} → CrashStates m [] a b → LeadsTo m [] a b 0 0
-none_leads m {b = b} on =
+none_leads m {a = a} {b = b} on =
     let end = length on.writes in
     let here = within_line (on.line end) (on.step end) 0 (on.last end) in
     let none : on.step end ≡ 0 = (let few = here.1 in omega (arith, few)) in (
@@ -57,24 +65,33 @@ none_leads m {b = b} on =
             (subst (λ (l : ℕ). RevealsSettled e (staged m [] l (on.step end))) here.0 (along_last (IsCrashState m []) 0 0 0 0 on e revealed).revealed),
       ),
       on,
+      waited_none m [] on.writes on.line a b,
     )
 
 -- Writes that lead to a place.
+
+below_end : (k i l j : ℕ) → IsBy k i l 0 → j < k → j < l
+below_end k i l j (inl less) below = omega (arith, less, below)
+below_end k i l j (inr same) below = let here = same.0 in omega (arith, here, below)
 
 -- of the first of some lines
 pub leads_before : (m : Machine) (lines more : List TraceLine) {a b : DiskState} (k i : ℕ) → IsBy k i (length lines) 0 → LeadsTo m lines a b k i → LeadsTo m (lines ++ more) a b k i
 leads_before m lines more {b = b} k i by leads = (
   files_before m lines more b k i by leads.0,
   along_less (IsCrashState m lines) (IsCrashState m (lines ++ more)) 0 0 k i (λ l g d after_first before_last at. crash_state_before m lines more l g d (by_then l g k i (length lines) 0 before_last by) at) leads.1,
+  λ made is j below waits. leads.2 made is j below (waits_before m lines more j (below_end k i (length lines) j by below) waits),
 )
 
--- after some lines
-pub leads_after : (m : Machine) (lines more : List TraceLine) {a b c : DiskState} (k i : ℕ) → CrashStates m lines a b → LeadsTo (after m lines (length lines)) more b c k i → LeadsTo m (lines ++ more) a c (length lines + k) i
-leads_after m lines more {c = c} k i on leads = (
-  files_after m lines more c k i leads.0,
-  along_then (IsCrashState m (lines ++ more)) 0 0 (length lines) 0 (length lines + k) i (from_prefix m lines more on)
-      (along_wider (IsCrashState m (lines ++ more)) (length lines + 0) 0 (length lines) 0 (length lines + k) i (length lines + k) i
-      (by_equal (length lines) (length lines + 0) 0 (omega arith)) (by_itself (length lines + k) i)
-      (along_shifted (IsCrashState (after m lines (length lines)) more) (IsCrashState m (lines ++ more)) (length lines) 0 0 k i
-      (λ l g d after_first before_last at. crash_state_after m lines more l g d at) leads.1)),
-)
+-- after some lines that were waited for
+pub leads_after : (m : Machine) (lines more : List TraceLine) {a b c : DiskState} (k i : ℕ) (on : CrashStates m lines a b) → HasWaited m lines (length lines) on.writes on.line a c → LeadsTo (after m lines (length lines)) more b c k i
+    → LeadsTo m (lines ++ more) a c (length lines + k) i
+leads_after m lines more {b = b} {c = c} k i on early leads =
+    let two : Along (IsCrashState m (lines ++ more)) (length lines) 0 (length lines + k) i b c =
+    along_wider (IsCrashState m (lines ++ more)) (length lines + 0) 0 (length lines) 0 (length lines + k) i (length lines + k) i
+    (by_equal (length lines) (length lines + 0) 0 (omega arith)) (by_itself (length lines + k) i)
+    (along_shifted (IsCrashState (after m lines (length lines)) more) (IsCrashState m (lines ++ more)) (length lines) 0 0 k i
+    (λ l g d after_first before_last at. crash_state_after m lines more l g d at) leads.1) in (
+      files_after m lines more c k i leads.0,
+      along_then (IsCrashState m (lines ++ more)) 0 0 (length lines) 0 (length lines + k) i (from_prefix m lines more on) two,
+      waited_then m lines more k (length lines + k) i on two leads.1.line (λ n. refl) early leads.2,
+    )

@@ -1,6 +1,7 @@
 -- Lines that were read, and the machine after the last of a trace.
-use Rattle.std.proofs.Common.{◌≡◌, ◌≢◌, inl, inr, ℕ, List, [], ◌∷◌, ◌++◌, length, Option, Some, None, refl, sym, ap, ◌∙◌, subst, append-nil}
-use Rattle.std.proofs.lemmas.Option.{same_Some}
+use Rattle.std.proofs.Common.{◌≡◌, ◌≢◌, inl, inr, ℕ, zero, suc, true, List, [], ◌∷◌, ◌++◌, length, Option, Some, None, refl, sym, ap, ◌∙◌, subst, append-nil}
+use Rattle.std.proofs.lemmas.Bool.{true≢false}
+use Rattle.std.proofs.lemmas.Option.{none-some, same_Some}
 use Rattle.std.specs.Io.KnownBytes.{Consumes}
 use Rattle.labelled_disk.specs.Sectors.{Sector}
 use Rattle.labelled_disk.specs.State.{DiskState}
@@ -18,6 +19,7 @@ use Rattle.session_words.specs.StandsFor.{RevealsSettled}
 use Rattle.pilot_engine.specs.Closing.{HasShut}
 use Rattle.pilot_top.specs.Headline.{HasFilesAt}
 use Rattle.pilot_top.specs.Turn.{EndsTrace}
+use Rattle.pilot_top.specs.Waiting.{WaitsAt, WaitsLine}
 use Rattle.pilot_top.specs.declared.turn.End.{End}
 use Rattle.pilot_top.specs.declared.turn.End.TheVariants as end
 use Rattle.pilot_top.proofs.PlaceLemmas.{files_end}
@@ -36,6 +38,15 @@ read_prefix x b p lines read = from b read.took p.stopped read.goes_on
     from (Some s) took (Some stop.End) goes = ([], goes.0.items_are ∙ sym (append-nil lines))
     from (Some s) took (Some stop.ReadFault) goes = absurd goes
     from (Some s) took (Some stop.Long) goes = absurd goes
+
+-- Lines that don't wait.
+
+none_waits : (m : Machine) (j : ℕ) → WaitsAt m [] j → ⊥
+none_waits m j waits = none-some waits.0 waits.1
+
+one_waits_not : (m : Machine) (line : TraceLine) → (WaitsLine m line → ⊥) → (j : ℕ) → WaitsAt m (line ∷ []) j → ⊥
+one_waits_not m line not zero waits = not (subst (WaitsLine m) (sym (same_Some line waits.0 waits.1)) waits.2)
+one_waits_not m line not (suc j) waits = none-some waits.0 waits.1
 
 -- The end of a trace.
 
@@ -58,6 +69,17 @@ module _ (m : Machine) (x : List ℕ) (b t u : Option (List ℕ)) (p : Progress)
   End-after end.Trace c q (inr ended) =
       let all = rw ended.0 at going.read.goes_on in
       ap (λ (l : List TraceLine). after m l (length l)) all.0.items_are
+
+  -- after the lines that were answered there is the one that ends the trace, or none, and none that waits
+  pub ended_tail : (how : End) (c : Option (List ℕ)) (q : Progress) → EndsTrace how b c p q → (tail : List TraceLine) × (reading x ≡ going.lines ++ tail) × ((n : Machine) (j : ℕ) → WaitsAt n tail j → ⊥)
+  ended_tail end.Close c q ended =
+      (Some call.Close ∷ [], (let all = HasRead-last (Some x) b c p q going.lines (Some call.Close) going.read ended.0 ended.1 refl in all.items_are), λ n. one_waits_not n (Some call.Close) (λ w. true≢false (sym w.0)))
+  ended_tail end.Halt c q ended =
+      (Some call.Halt ∷ [], (let all = HasRead-last (Some x) b c p q going.lines (Some call.Halt) going.read ended.0 ended.1 refl in all.items_are), λ n. one_waits_not n (Some call.Halt) (λ w. true≢false (sym w.0)))
+  ended_tail end.Trace c q (inl ended) =
+      ([], (let all = HasRead-end (Some x) b c p going.lines going.read ended.0 ended.1 ended.2 ended.3 in all.items_are ∙ sym (append-nil going.lines)), none_waits)
+  ended_tail end.Trace c q (inr ended) =
+      ([], (let all = rw ended.0 at going.read.goes_on in all.0.items_are ∙ sym (append-nil going.lines)), none_waits)
 
   -- what an end of the session leaves
   module _ (disk : DiskState) (stop : (e : List Sector) → disk.contents ≡ Some e → RevealsSettled e (last_of m going.lines)) where

@@ -25,6 +25,7 @@ use Rattle.pilot_top.specs.declared.status.Status.{Status}
 use Rattle.pilot_top.specs.declared.status.Status.TheVariants as status
 use Rattle.pilot_top.proofs.AlongLemmas.{by_itself}
 use Rattle.pilot_top.proofs.PlaceLemmas.{leads_after, leads_before, none_leads}
+use Rattle.pilot_top.proofs.WaitedLemmas.{waited_none}
 use Rattle.pilot_top.proofs.PutLemmas.{damage_alone, put_alone}
 use Rattle.pilot_top.proofs.SuitLemmas.{none_first}
 
@@ -59,7 +60,7 @@ answering_less status.Unfit m b left t took failed has then less is = absurd is
 -- a start, and then a session
 started_leads : (d : List Sector) (lines : List TraceLine) {a b c : DiskState} (k i : ℕ) → CrashStates (start d) [] a b → LeadsTo (start d) lines b c k i → LeadsTo (start d) lines a c k i
 started_leads d lines {a = a} {c = c} k i from leads =
-    subst (λ (n : ℕ). LeadsTo (start d) lines a c n i) (let z : 0 + k ≡ k = omega arith in z) (leads_after (start d) [] lines k i from leads)
+    subst (λ (n : ℕ). LeadsTo (start d) lines a c n i) (let z : 0 + k ≡ k = omega arith in z) (leads_after (start d) [] lines k i from (waited_none (start d) [] from.writes from.line a c) leads)
 
 pub run_started : (s : Status) (d : List Sector) (b t : List ℕ) (left took : Option (List ℕ)) (failed : Type 0) (before mid disk : DiskState) → s ≢ status.NotOpened → s ≢ status.NoMemory
     → CrashStates (start d) [] before mid → Answering s (start d) b left t took failed (LeadsTo (start d) (reading b) mid disk) → Run s d b left t took failed before disk

@@ -14,6 +14,7 @@ use Rattle.pilot_engine.specs.Opening.{IsUnset}
 use Rattle.pilot_top.specs.CrashStates.{CrashStates, IsCrashState, ShutsLast}
 use Rattle.pilot_top.specs.Headline.{LeadsTo}
 use Rattle.pilot_top.proofs.AlongLemmas.{along_same}
+use Rattle.pilot_top.proofs.WaitedLemmas.{waited_later}
 use Rattle.volume_root.specs.declared.root.Root.{Root}
 
 module _ {mid new : DiskState} (same : RevealsSame mid new) where
@@ -23,8 +24,12 @@ module _ {mid new : DiskState} (same : RevealsSame mid new) where
   pub unset_same : IsUnset mid → IsUnset new
   unset_same unset d revealed = unset d (sym same.contents ∙ revealed)
 
-  pub leads_same : {old : DiskState} (m : Machine) (lines : List TraceLine) (k i : ℕ) → LeadsTo m lines old mid k i → LeadsTo m lines old new k i
-  leads_same m lines k i leads = ((leads.0.0, λ e revealed. leads.0.1 e (sym same.contents ∙ revealed)), along_same (IsCrashState m lines) 0 0 k i same leads.1)
+  pub leads_same : {old : DiskState} (m : Machine) (lines : List TraceLine) (k i : ℕ) → Went mid new → LeadsTo m lines old mid k i → LeadsTo m lines old new k i
+  leads_same {old = old} m lines k i went leads = (
+    (leads.0.0, λ e revealed. leads.0.1 e (sym same.contents ∙ revealed)),
+    along_same (IsCrashState m lines) 0 0 k i same leads.1,
+    waited_later m lines k leads.1.writes leads.1.line old went leads.2,
+  )
 
   pub crash_states_same : {old : DiskState} {m : Machine} {lines : List TraceLine} → CrashStates m lines old mid → CrashStates m lines old new
   crash_states_same on = record {

@@ -169,9 +169,6 @@ module _ (m : Machine) (h : IsMachine m) (id : ℕ) (c : File → File) (ids : (
   abbrev pub changed : Machine
   changed = record m { files = change_file id c m.files }
 
-  here : File → File
-  here f = if f.id == id then c f else f
-
   pub changed_shape : (j : ℕ) → settled_shape changed j ≡ permanent_shape (option_map (λ f. if f.id == id then c f else f) (file_at m.files j))
   changed_shape j =
       shape_at changed (ascending_map (λ f. f.id) (λ f. if f.id == id then c f else f) (one_id id c ids) m.files h.ids_rise) j

@@ -114,10 +114,10 @@ crash_state_after m lines more j i d at = record {
 }
 
 -- before more lines
-pub from_prefix : (m : Machine) (lines more : List TraceLine) {a b : DiskState} → CrashStates m lines a b → Along (IsCrashState m (lines ++ more)) 0 0 (length lines) 0 a b
+abbrev pub from_prefix : (m : Machine) (lines more : List TraceLine) {a b : DiskState} → CrashStates m lines a b → Along (IsCrashState m (lines ++ more)) 0 0 (length lines) 0 a b
 from_prefix m lines more on = along_less (IsCrashState m lines) (IsCrashState m (lines ++ more)) 0 0 (length lines) 0 (λ l g d after_first before_last at. crash_state_before m lines more l g d before_last at) on
 
-pub crash_states_before : (m : Machine) (lines more : List TraceLine) {a b : DiskState} → CrashStates m lines a b → CrashStates m (lines ++ more) a b
+abbrev pub crash_states_before : (m : Machine) (lines more : List TraceLine) {a b : DiskState} → CrashStates m lines a b → CrashStates m (lines ++ more) a b
 crash_states_before m lines more on =
     along_wider (IsCrashState m (lines ++ more)) 0 0 0 0 (length lines) 0 (length (lines ++ more)) 0 (by_equal 0 0 0 refl) (by_most (length lines) (length (lines ++ more)) (let e = longer lines more in omega (arith, e)))
     (from_prefix m lines more on)

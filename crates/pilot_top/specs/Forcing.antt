@@ -37,13 +37,13 @@ AtEach m lines line step s k has = (i : ℕ) → s ≤ i → i ≤ k → has (st
 -- In each crash state of the writes of a run the disk has the settled files of a place of the trace. A cut e of those from s to k, where the
 -- disk was synced after s of them and not since, when k were made: a file that is at all these places, of one type and immutable at all of
 -- them or at none, is there, so, with the size that it has at one of them, and with each page that has the same bytes at all of them. One
--- that is at none of them is not there.
+-- that is at none of them is not there. So it is whatever the places.
 pub record KeepsForced (m : Machine) (lines : List TraceLine) (d : List Sector) (old new : DiskState) : Type 0 where
   pub places : CrashStates m lines old new
-  pub files : (id kind s k : ℕ) (immutable : Bool) (e : List Sector) → s ≤ k → k ≤ length places.writes → IsCut d places.writes s k e
-      → AtEach m lines places.line places.step s k (HasSettled id kind immutable)
+  pub files : (at : CrashStates m lines old new) (id kind s k : ℕ) (immutable : Bool) (e : List Sector) → s ≤ k → k ≤ length at.writes
+      → IsCut d at.writes s k e → AtEach m lines at.line at.step s k (HasSettled id kind immutable)
       → (f : File) × (disk_file false e id ≡ Some f) × IsOfType kind immutable f
-      × AtSome s k (λ i. HasSettledSize id (size f) (staged m lines (places.line i) (places.step i)))
-      × ((page : ℕ) (bytes : List ℕ) → AtEach m lines places.line places.step s k (HasForced id page bytes) → slice_get f.pages page ≡ Some (map byte bytes))
-  pub no_other : (id s k : ℕ) (e : List Sector) → s ≤ k → k ≤ length places.writes → IsCut d places.writes s k e
-      → AtEach m lines places.line places.step s k (HasNoneSettled id) → disk_file false e id ≡ None
+      × AtSome s k (λ i. HasSettledSize id (size f) (staged m lines (at.line i) (at.step i)))
+      × ((page : ℕ) (bytes : List ℕ) → AtEach m lines at.line at.step s k (HasForced id page bytes) → slice_get f.pages page ≡ Some (map byte bytes))
+  pub no_other : (at : CrashStates m lines old new) (id s k : ℕ) (e : List Sector) → s ≤ k → k ≤ length at.writes → IsCut d at.writes s k e
+      → AtEach m lines at.line at.step s k (HasNoneSettled id) → disk_file false e id ≡ None

@@ -67,8 +67,8 @@ pub record Ran (s : Status) (before after : World) : Type 0 where
   -- has at one of them, and a page with the bytes that were forced; one that it has settled at none of them is not.
   pub forced : (d : List Sector) (b : List ℕ) → Holds before d → Sound d → Gives before b → KeepsForced (start d) (reading b) d before.disk after.disk
   -- Each cut of its writes since the disk was synced has the files that the machine has settled at one place since, with types, marks and
-  -- sizes, and no other. A page has the bytes that were forced at all places where its file is settled. The trace is the one that the source
-  -- reveals, and else some trace.
+  -- sizes, and no other. A page has the bytes that were forced at all places where its file is settled. The root gives out none of their
+  -- identifiers again. The trace is the one that the source reveals, and else some trace.
   pub cut_files : (d : List Sector) (b : List ℕ) → Holds before d → Sound d → Gives before b → CutsHaveFiles (start d) (reading b) d before.disk after.disk
   pub some_cut_files : (d : List Sector) → Holds before d → Sound d → (lines : List TraceLine) × CutsHaveFiles (start d) lines d before.disk after.disk
   -- Where it ended before its session did, the volume is left open; so where lines are left after the one that was answered

@@ -9,6 +9,7 @@ ghost use Rattle.flat_machine.specs.Machine.{Machine};
 ghost use Rattle.session_words.specs.StandsFor.{RevealsSettled};
 ghost use Rattle.volume_root.specs.Sound.{Sound};
 ghost use Rattle.scavenger.specs.Restored.{IsRestored};
+ghost use Rattle.pilot_top.specs.Lasting.{WaitedForLasts};
 ghost use Rattle.pilot_top.specs.Scavenging.{HasFilesOf};
 ghost use Rattle.pilot_top.specs.Trial.{IsTrial};
 
@@ -25,4 +26,10 @@ pub fn lost_maps_are_restored()
 pub fn trials_have_one_line()
     ensures { (n k seed calls : ℕ) (rs ss : List Reply) → IsCount n → IsCount k
         → IsTrial n seed calls rs → IsTrial k seed calls ss → rs ≡ ss }
+{}
+
+/// Of a run that answered `force`, `unmap` or `protect` to read-only: bytes that are forced from that line on are in each cut from a
+/// sync on that was made before the run's end.
+pub fn what_was_waited_for_is_in_cuts()
+    ensures { WaitedForLasts }
 {}

@@ -7,6 +7,7 @@ ghost use Rattle.pilot_top.specs.Headline.{CostsLine};
 ghost use Rattle.pilot_top.specs.CrashStates.{LineCrashStates};
 ghost use Rattle.pilot_top.specs.Sparing.{Hides, LineDone};
 ghost use Rattle.pilot_top.specs.Turn.{EndsAt, IsGoing, Turns};
+ghost use Rattle.pilot_top.specs.Waiting.{IsBrought};
 ghost use Rattle.pilot_top.specs.Turning.{AccountsTurn, ReadsSource, StaysInTurn, StopsTurn, WritesTurn};
 ghost use Rattle.fault_core.specs.Core.{state};
 
@@ -62,7 +63,8 @@ pub(crate) fn take_turn<D: Disk, A: Allocator, S: Source>(
         (Runs session.old.core session.old.volume) (Runs session.new.core session.new.volume)
         (λ m line.
         LineCrashStates m line (state session.old.core).disk (state session.new.core).disk
-        × CostsLine line (state session.old.core).disk (state session.new.core).disk)
+        × CostsLine line (state session.old.core).disk (state session.new.core).disk
+        × (IsGoing result → IsBrought m line (state session.new.core).disk))
         (λ line.
         LineDone session.old.volume.root line (state session.old.core).disk (state session.old.core).slots
         (state session.new.core).disk (state session.new.core).slots (Hides session.old)

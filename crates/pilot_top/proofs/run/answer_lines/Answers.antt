@@ -11,6 +11,7 @@ use Rattle.labelled_disk.proofs.WriteRunLemmas.{appended_none}
 use Rattle.flat_machine.specs.Machine.{Machine}
 use Rattle.swapper_kernel.specs.Goes.{Went}
 use Rattle.swapper_kernel.specs.GoesLaws.{went_itself, went_then}
+use Rattle.swapper_kernel.specs.SyncLaws.{synced_has}
 use Rattle.trace_io.specs.Reading.{reading}
 use Rattle.trace_io.proofs.CourseLemmas.{HasRead-none}
 use Rattle.trace_io.specs.declared.progress.Stop.TheVariants as stop
@@ -36,7 +37,7 @@ use Rattle.pilot_top.specs.declared.turn.Turn.TheVariants.{Halts}
 use Rattle.pilot_top.proofs.ApartLines.{ended_apart, openly_apart, still_apart}
 use Rattle.pilot_top.proofs.ApartRuns.{apart_none, apart_of_any}
 use Rattle.pilot_top.proofs.EndLemmas.{End-answering, End-prefix, End-rest, End-short}
-use Rattle.pilot_top.proofs.ExitLemmas.{halt_not_damaged, halt_evidence, three_ways, stopped_leads, takes_more, still_crash_states, still_spends, line_spends, end_spent, still_leads, line_crash_states, halt_leads, reply_leads, line_not_close, end_closed, end_unheard, end_crash_states}
+use Rattle.pilot_top.proofs.ExitLemmas.{done_leads, halt_not_damaged, halt_evidence, three_ways, stopped_leads, takes_more, still_crash_states, still_spends, line_spends, end_spent, still_leads, line_crash_states, halt_leads, reply_leads, line_not_close, end_closed, end_unheard, end_crash_states}
 use Rattle.pilot_top.proofs.PrefixLemmas.{End-has}
 use Rattle.pilot_top.proofs.PermittedRuns.{called_openly, ended_last, openly_last, openly_none, openly_then}
 use Rattle.pilot_top.proofs.ShutLemmas.{openly_shuts, shuts_after}
@@ -53,7 +54,7 @@ use Rattle.pilot_top.proofs.StagedLemmas.{from_rest, stands_revealed}
 use Rattle.pilot_top.proofs.StatusLemmas.{halt_ends, trace_ends}
 use Rattle.pilot_top.proofs.StopParts.{Stops-end, Stops-halted, Stops-long, Stops-read_fault, Stops-write_fault, bytes_taken, end_parts, line_taken}
 use Rattle.pilot_top.proofs.TopLemmas.{change_revealed, last_of, Run-disk, Run-long, Run-read_fault, Run-write_fault, not_short, rose_later, Puts-later, damage_revealed, revealed_prefix, Going-sink, Going-revealed}
-use Rattle.pilot_top.proofs.TurnedLemmas.{line_parts, more_crash_states, ended_crash_states, still_parts, Turned-start, Turned-reply, Turned-source, Turned-revealed, Turned-same}
+use Rattle.pilot_top.proofs.TurnedLemmas.{Holds, line_parts, more_crash_states, ended_crash_states, still_parts, Turned-start, Turned-reply, Turned-source, Turned-revealed, Turned-same}
 use Rattle.pilot_top.proofs.SameLemmas.{crash_states_same, leads_same, shuts_same, unset_same}
 use Rattle.pilot_top.proofs.ShownLemmas.{long_ends, none_shown, not_shown, on_disk, on_plain, one_shown, revealed_then, seen_plain, seen_shown}
 use Rattle.pilot_top.proofs.run.answer_lines.Given as given
@@ -81,6 +82,14 @@ stands_of g s m = Runs s.core s.volume m
 reveals : (g : given.Over) (s : Sessions g) (m : Machine) → stands_of g s m → (e : List Sector) → (session_disk g s).contents ≡ Some e → RevealsSettled e m
 reveals g s m stands e revealed =
     (stands_revealed m stands (λ d is. g.met.D.Disk.in_form (disk_of s.core.filer) d is) e revealed).revealed
+
+-- a session's disk after a line
+holds : (g : given.Over) (before s : Sessions g) → Went (session_disk g before) (session_disk g s) → Holds (stands_of g s) (session_disk g before) (session_disk g s)
+holds g before s went = record {
+  went = went;
+  has_sync = λ writes synced is. synced_has (session_disk g s) (g.met.D.Disk.sync_counts (disk_of s.core.filer)) synced writes is;
+  here = λ m stands d revealed. stands_revealed m stands (λ e is. g.met.D.Disk.in_form (disk_of s.core.filer) e is) d revealed;
+}
 
 -- a disk that reveals what it holds shows no label that had changed
 plain_by : (g : given.Over) (s : Sessions g) (m : Machine) → stands_of g s m → (disk : g.row.D.Denot) (writes : List DiskWrite) → Appended writes (session_disk g s) (g.D.Disk.state disk) → g.D.RunDisk.shown disk ≡ None
@@ -132,7 +141,7 @@ turns-preserved g c =
     let turn = c.in-Replies.ensures.turns in
     let went = c.take_turn.ensures.writes.wrote.makes.went in
     record {
-      turned = Turned-reply i.turned i.same_disk.sectors turn.0 turn.2 turn.3 turn.4 turn.5 turn.6.wrote
+      turned = Turned-reply i.turned i.same_disk.sectors turn.0 turn.2 turn.3 turn.4 (holds g c.turns.session c.take_turn.new.session went) turn.5 turn.6.wrote
           (called_openly c.take_turn.ensures.writes.wrote) c.in-Ok.ensures.ok;
       spared = lines_hide (λ id still. still tt) (lines_more i.spared turn.0 turn.2 turn.4 i.goes.monotone turn.6);
       apart = λ m stands. openly_apart false i.turned.permitted (called_openly c.take_turn.ensures.writes.wrote) i.same_disk went (i.apart m stands) (c.in-Replies.ensures.writes.apart _ (i.turned.going.stands m stands));
@@ -173,7 +182,7 @@ returns-in_default g c =
       answers = record {
         answering = λ m b t stands source sink.
             let turned = Turned-revealed i.turned source sink in
-            let has = reply_leads m turned stands turn.0 turn.2 turn.4 (session_disk g c.take_turn.new.session) turn.5 turn.3 (reveals g c.take_turn.new.session) in
+            let has = reply_leads m turned stands turn.0 turn.2 turn.4 (session_disk g c.take_turn.new.session) (holds g c.turns.session c.take_turn.new.session c.take_turn.ensures.writes.wrote.makes.went) turn.5 turn.3 (reveals g c.take_turn.new.session) in
             Run-write_fault m b t _ _ c.turns.lines _ _ turned.going stands _ (LeadsTo m (reading b) (session_disk g c.args.session) (g.D.Disk.state c.into_disk.result)) _ _ c.take_turn.new.lines _ turn.1 c.in-Replies.reply turn.0 turn.2 turn.3
             rose put.0 put.1 put.2 (rw c.into_disk.ensures has);
         replied = λ b t left source sink plain.
@@ -248,7 +257,7 @@ returns-in-ReadFault g c =
       };
       leaves = record {
         crash_states = λ m b stands source. rw c.into_disk-in-ReadFault.ensures (still_crash_states m (Turned-same {S = Sessions g} (session_disk g) (stands_of g) same (Turned-source i.turned source)) stands);
-        some_crash_states = λ m stands. rw (c.into_disk-in-ReadFault.ensures, same) (_, i.turned.along m stands);
+        some_crash_states = λ m stands. rw (c.into_disk-in-ReadFault.ensures, same) (_, (i.turned.along m stands).0);
         closed = λ m b stands source done going. absurd (cc done);
         closed_unheard = λ m b stands source is heard left closed. absurd (heard rose);
         stays_open = λ b left source early. rw c.into_disk-in-ReadFault.ensures (unset_then (i.left_open left) c.take_turn.ensures.writes.wrote);
@@ -301,7 +310,7 @@ returns-in-Long g c =
       answers = record {
         answering = λ m b t stands source sink.
             let turned = Turned-same {S = Sessions g} (session_disk g) (stands_of g) same (Turned-revealed i.turned source sink) in
-            let has = leads_same there m (reading b) (length turned.going.lines) 0 (still_leads m turned stands (reveals g c.take_turn.new.session)) in
+            let has = leads_same there m (reading b) (length turned.going.lines) 0 later (still_leads m turned stands (reveals g c.take_turn.new.session)) in
             elim e.ends [
               | inl long ↦
                   rw long
@@ -345,7 +354,7 @@ returns-in-Long g c =
       leaves = record {
         crash_states = λ m b stands source. crash_states_same there (still_crash_states m (Turned-same {S = Sessions g} (session_disk g) (stands_of g) same (Turned-source i.turned source)) stands);
         some_crash_states = λ m stands.
-            let along : CrashStates m i.turned.going.lines (session_disk g c.args.session) mid = rw same (i.turned.along m stands) in
+            let along : CrashStates m i.turned.going.lines (session_disk g c.args.session) mid = rw same (i.turned.along m stands).0 in
             (i.turned.going.lines, crash_states_same there along);
         closed = λ m b stands source done going. absurd (other.0 done);
         closed_unheard = λ m b stands source is heard left closed. absurd (other.1 is);
@@ -421,7 +430,7 @@ returns-in-Halts g c =
             let why : c.in-Halts.halt ≡ halt.Disk = c.in-Halts.ensures.stops.sound _ c.in-Halts.halt (turned.going.stands m stands) refl in
             let is : s ≡ status.DiskFault = plain_status none ∙ ap status_of why in
             let line : PutsLast g c.turns.sink c.stop_on-status.new.sink cause.DiskFault = subst (λ (h : Halt). PutsLast g c.turns.sink c.stop_on-status.new.sink (cause_of h)) why (plain_line none) in
-            let has = halt_leads m turned stands turn.0 turn.2 turn.3 turn.4 in
+            let has = halt_leads m turned stands turn.0 turn.2 turn.3 c.take_turn.ensures.writes.wrote.makes.went turn.4 in
             rw is
             (Run-disk m b t _ _ c.turns.lines _ _ turned.going stands _ (LeadsTo m (reading b) (session_disk g c.args.session) (g.D.Disk.state c.into_disk-disk.result)) (g.S.Source.left c.take_turn.new.source) _ turn.0
             (Puts-later _ _ _ _ _ (rose_later _ _ _ i.sink) line) has.0 (rw c.into_disk-disk.ensures has.1));
@@ -514,8 +523,9 @@ returns-in-Ends g c =
             (three_ways c.end_trace.result.0 e.answers.ends (e.stands _ there).sound) e.answers.done e.answers.part
             (λ is. (rose_later _ _ _ i.sink (e.answers.stream_cause is).0, (e.answers.stream_cause is).1))
             (λ is. Puts-later _ _ _ _ _ (rose_later _ _ _ i.sink) (e.answers.disk_fault is).2)
-            (λ well. (End-has m b _ _ _ c.turns.lines _ _ turned.going disk revealed c.in-Ends.end _ c.take_turn.new.lines ended (λ other. (e.stands _ there).closed (other, well)), end_crash_states m turned stands disk (e.stands _ there).stops))
-            (stopped_leads m turned stands disk revealed (e.stands _ there).stops);
+            (λ well. done_leads m turned stands disk c.in-Ends.end _ c.take_turn.new.lines ended e.writes.wrote.went
+            (End-has m b _ _ _ c.turns.lines _ _ turned.going disk revealed c.in-Ends.end _ c.take_turn.new.lines ended (λ other. (e.stands _ there).closed (other, well))) (e.stands _ there).stops)
+            (stopped_leads m turned stands disk e.writes.wrote.went revealed (e.stands _ there).stops);
         replied = λ b t left source sink plain.
             Replied-end b t (Going-revealed _ _ _ _ _ _ _ b t i.turned.going source sink) _ disk (FromEachInitialState c.args.session disk) c.end_trace.result.0 c.in-Ends.end (g.S.Source.left c.take_turn.new.source) _ c.take_turn.new.lines ended e.answers.ends e.answers.done e.answers.part
             (λ is. (rose_later _ _ _ i.sink (e.answers.stream_cause is).0, (e.answers.stream_cause is).1))

@@ -11,12 +11,13 @@ use Rattle.file_map.specs.InSectors.{MapNames}
 use Rattle.trace_io.specs.Reading.{IsShort, reading}
 use Rattle.filer_kernel.specs.View.{accepted}
 use Rattle.fault_core.specs.Core.{state}
+use Rattle.volume_root.specs.declared.root.Root.{Root}
 use Rattle.volume_root.specs.RootPage.{root_in}
 use Rattle.volume_root.specs.Sound.{Sound}
-use Rattle.pilot_top.specs.CrashStates.{CrashStates}
+use Rattle.pilot_top.specs.CrashStates.{CrashStates, Lawfully}
 use Rattle.pilot_top.specs.InitialState.{FromEachInitialState, FromInitialState}
 use Rattle.pilot_top.specs.OnePlace.{ChangesApart}
-use Rattle.pilot_top.specs.Parts.{InParts, PartMay}
+use Rattle.pilot_top.specs.Parts.{InParts, PartMay, RaisesRoot}
 use Rattle.pilot_top.specs.Sparing.{Hides}
 use Rattle.pilot_top.specs.World.{world}
 use Rattle.pilot_top.proofs.AfterLemmas.{Stops-less}
@@ -80,6 +81,19 @@ changes_apart g c d revealed sound =
     let writes = c.answer_lines.ensures.writes in
     apart_after true began.writes writes.permitted.writes began.appended writes.permitted.appended c.in-Ok.ensures.wrote.went.syncs writes.same_disk.syncs (start_apart (start d) began) (writes.apart (start d) (c.in-Ok.ensures.stands d revealed sound))
 
+-- the roots that were written
+raised : (g : given.Over) (c : goal.After-answer_lines g) (d : List Sector) → (g.D.Disk.state c.args.disk).contents ≡ Some d
+    → (last : Root) × RaisesRoot (root_in (root_page d)) last (g.D.Disk.state c.args.disk) (g.D.Disk.state c.answer_lines.result.1)
+raised g c d revealed =
+    let from = c.in-Ok.ensures in
+    let on = c.answer_lines.ensures.writes.roots in
+    let begun = from.root d revealed in
+    (on.0, raises_then begun.0 (raises_start (root_in (root_page d)) c.in-Ok.session.volume.root begun.0.0 from.wrote begun.1) on.1)
+
+-- each write is permitted
+lawful : (g : given.Over) (c : goal.After-answer_lines g) → Lawfully (g.D.Disk.state c.args.disk) (g.D.Disk.state c.answer_lines.result.1)
+lawful g c = ran_lawfully c.in-Ok.ensures.wrote c.in-Ok.ensures.left_open c.answer_lines.ensures.writes.permitted
+
 pub returns-in-Ok : goal.returns-in-Ok
 returns-in-Ok g c =
     let from = c.in-Ok.ensures in
@@ -106,16 +120,13 @@ returns-in-Ok g c =
         cuts = λ d revealed sound.
             let states = some_states g c d revealed sound in
             ran_honest d revealed from.wrote (from.crash_states d revealed sound.labels) sound from.left_open from.synced e.writes.same_disk (e.writes.syncs (start d) (from.stands d revealed sound))
-            e.writes.permitted states.0 states.1 (ran_lawfully from.wrote from.left_open e.writes.permitted);
+            e.writes.permitted states.0 states.1 (lawful g c);
         stops = λ b t source sink.
             Stops-less s b t _ _ _ (λ k. InParts (PartMay (reading b)) k mid disk) (λ k. InParts (PartMay (reading b)) k first disk) (λ k on. parts_started (reading b) k from.wrote on) (e.writes.stops b t source sink);
         spares = λ d earlier b id revealed made source file untouched.
             run_spared id (reading b) d earlier session.volume.root (state session.core).slots from.wrote from.clean e.writes.same_disk (e.writes.spares b source)
             (λ named map. hides g c d earlier revealed made named map id) (root d revealed) file untouched revealed made;
-        roots = λ d revealed.
-            let begun = from.root d revealed in
-            let on = e.writes.roots in
-            (on.0, raises_then begun.0 (raises_start (root_in (root_page d)) session.volume.root begun.0.0 from.wrote begun.1) on.1);
+        roots = raised g c;
         stays = λ d earlier b id revealed made source file untouched.
             spared_stays id (reading b) d
             (run_spared id (reading b) d earlier session.volume.root (state session.core).slots from.wrote from.clean e.writes.same_disk (e.writes.spares b source)
@@ -127,15 +138,15 @@ returns-in-Ok g c =
             keeps_forced (start d) (reading b) d (crash_states_then (start d) [] (reading b) (begun g c d revealed sound) (e.leaves.crash_states (start d) b (from.stands d revealed sound) source)) revealed;
         cut_files = λ d b revealed sound source.
             cuts_have_files (start d) (reading b) d (crash_states_then (start d) [] (reading b) (begun g c d revealed sound) (e.leaves.crash_states (start d) b (from.stands d revealed sound) source)) revealed
-            (revealed_syncs g c) (changes_apart g c d revealed sound);
+            (revealed_syncs g c) (changes_apart g c d revealed sound) refl (lawful g c) (raised g c d revealed);
         some_cut_files = λ d revealed sound.
             let states = some_states g c d revealed sound in
-            (states.0, cuts_have_files (start d) states.0 d states.1 revealed (revealed_syncs g c) (changes_apart g c d revealed sound));
+            (states.0, cuts_have_files (start d) states.0 d states.1 revealed (revealed_syncs g c) (changes_apart g c d revealed sound) refl (lawful g c) (raised g c d revealed));
         stays_open = λ b source early. e.leaves.stays_open b from.left_open source early;
         untaken = λ b source is some. e.leaves.untaken b from.left_open source is some;
         left_open = λ is. e.leaves.left_open from.left_open is;
         transfers = λ d b revealed sound source. run_spends (reading b) first mid disk from.wrote.went.sectors from.bounded (e.writes.transfers (start d) b (from.stands d revealed sound) source);
-        permitted = ran_lawfully from.wrote from.left_open e.writes.permitted;
+        permitted = lawful g c;
         damage = λ t sink is. let all = e.answers.damage t from.left_open sink is (c.requires.plain c.answer_lines.result.1) in (all.0, started g c all.0.evidence all.1);
         sound = λ d revealed sound. (opened, e.answers.sound (start d) (from.stands d revealed sound));
         not_opened = λ d revealed is. absurd (opened is);
@@ -170,6 +181,8 @@ returns-in-Err g c =
     let unbegun : (d : List Sector) → first.contents ≡ Some d → Sound d → CrashStates (start d) [] first disk = λ d revealed sound. from_start d sound revealed (from.crash_states d revealed sound.labels) in
     let known : (made : List DiskWrite) (syncs : List ℕ) → first.writes ≡ Some made → disk.syncs ≡ Some syncs → (before : List ℕ) × (first.syncs ≡ Some before) = λ made syncs is have.
     syncs_there first.writes first.syncs (g.met.D.Disk.sync_counts c.args.disk) made is in
+    let raised_first : (d : List Sector) → first.contents ≡ Some d → (last : Root) × RaisesRoot (root_in (root_page d)) last first disk = λ d revealed.
+    let root = root_in (root_page d) in (root, raises_start root root (omega arith) from.wrote (from.root d revealed)) in
     let never = not_done f s old new took _ stops in
     let refuses = unstarted_refuses f s old new took _ stops first disk from.judged from.refused from.count from.unwritten in
     let causes = unstarted_causes f s old new took _ stops first disk (IsShort (2 ^ 32)) (world first left source_faults (took old) (faults old)) (world disk left source_faults (took new) (faults new)) from.counted in
@@ -185,13 +198,18 @@ returns-in-Err g c =
         stops = λ b t source sink.
             Stops-refused f s old new took _ stops b t left (λ k. InParts (PartMay (reading b)) k first disk) sink (λ k. parts_refused (reading b) k from.wrote);
         spares = λ d earlier b id revealed made source file untouched. start_spared id (reading b) d earlier from.wrote file revealed made;
-        roots = λ d revealed. let root = root_in (root_page d) in (root, raises_start root root (omega arith) from.wrote (from.root d revealed));
+        roots = raised_first;
         stays = λ d earlier b id revealed made source file untouched. spared_stays id (reading b) d (start_spared id (reading b) d earlier from.wrote file revealed made);
         stays_since = λ d earlier b revealed made source. start_stays (reading b) d earlier from.wrote revealed made;
         forced = λ d b revealed sound source. keeps_forced (start d) (reading b) d (crash_states_before (start d) [] (reading b) (unbegun d revealed sound)) revealed;
         cut_files = λ d b revealed sound source.
-            cuts_have_files (start d) (reading b) d (crash_states_before (start d) [] (reading b) (unbegun d revealed sound)) revealed known (apart_of_any true (start_apart (start d) (unbegun d revealed sound)));
-        some_cut_files = λ d revealed sound. ([], cuts_have_files (start d) [] d (unbegun d revealed sound) revealed known (apart_of_any true (start_apart (start d) (unbegun d revealed sound))));
+            cuts_have_files (start d) (reading b) d (crash_states_before (start d) [] (reading b) (unbegun d revealed sound)) revealed known (apart_of_any true (start_apart (start d) (unbegun d revealed sound)))
+            refl (started_lawfully from.wrote) (raised_first d revealed);
+        some_cut_files = λ d revealed sound. (
+          [],
+          cuts_have_files (start d) [] d (unbegun d revealed sound) revealed known (apart_of_any true (start_apart (start d) (unbegun d revealed sound)))
+              refl (started_lawfully from.wrote) (raised_first d revealed),
+        );
         stays_open = λ b source early. left_early f s old new took _ stops disk from.left_open (reading b) early;
         untaken = λ b source is some. absurd (never.1 is);
         left_open = λ is. left_at_start f s old new took _ stops disk from.left_open is;

@@ -49,6 +49,7 @@ returns-in-Ok-clause-turns g c =
       λ m is. (
         line_step m c.in-Call.call ((c.step.ensures.answers m is).passes),
         call_costs c.in-Call.call (state c.args.session.now.core).disk (state c.step.new.self.core).disk c.step.ensures.reference ((c.step.ensures.answers m is).cost),
+        λ going waiting. c.in-Ok.ensures.forced m waiting.0 waiting.1 is,
       ),
       call_done c.args.session.now.volume.root c.in-Call.call (line_wrote c.args.session.now.volume.root c.in-Call.call more c.step.ensures.wrote c.step.ensures.own.0) c.step.ensures.wrote c.step.ensures.spares
           (λ id client other free is. (
@@ -104,6 +105,7 @@ returns-in-Err-clause-turns g c =
       λ m is. (
         line_step m c.in-Call.call ((c.step.ensures.answers m is).passes),
         call_costs c.in-Call.call (state c.args.session.now.core).disk (state c.step.new.self.core).disk c.step.ensures.reference ((c.step.ensures.answers m is).cost),
+        λ going. absurd going,
       ),
       call_done c.args.session.now.volume.root c.in-Call.call (line_wrote c.args.session.now.volume.root c.in-Call.call more c.step.ensures.wrote c.step.ensures.own.0) c.step.ensures.wrote c.step.ensures.spares
           (λ id client other free is. (λ going. absurd going, hidden_makes c.args.session.now c.step.new.self c.in-Call.call id client is c.step.ensures.shown)),
@@ -164,6 +166,7 @@ returns-in-Bad-clause-turns g c =
       λ m is. (
         line_rest m is (g.met.D.Disk.in_form (disk_of c.args.session.now.core.filer)),
         bad_costs (state c.args.session.now.core).disk,
+        λ going waiting. absurd waiting,
       ),
       bad_done c.args.session.now.volume.root (state c.args.session.now.core).disk (state c.args.session.now.core).slots (written_none _ (record { contents = refl; writes = refl })) (λ id is going. is),
     )
