@@ -10,8 +10,7 @@ use labelled_disk::{Disk, DiskError, PAGE_BYTES, Wanted};
 /// Copies the page of sector `from` to sector `to`, whose label names the wanted page and stays.
 /// Two sectors are moved at most.
 pub fn copy_page<D: Disk>(disk: &mut D, from: u32, to: u32, wanted: Wanted) -> Result<(), DiskError>
-    requires from_exists { from < (D.state disk.old).sectors }
-    requires to_exists { to < (D.state disk.old).sectors }
+    requires exist { (from < (D.state disk.old).sectors) × (to < (D.state disk.old).sectors) }
     ensures copied { OnOk result (RevealsCopy from to wanted (D.state disk.old) (D.state disk.new)) }
     ensures named { OnOk result (NamesThere (D.state disk.old) to wanted true) }
 
