@@ -43,7 +43,7 @@ module _ (all : Bool) (d : List Sector) (made : ℕ) (writes : List DiskWrite) (
   ChangesAt i = (write : DiskWrite) × (slice_get writes i ≡ Some write) × (MarksApart all syncs made d writes i write ⊎ LabelsApart all syncs made d writes i write ⊎ ResizesApart all syncs made d writes i)
 
   -- the last of some writes that changes a file
-  last_change : (k c : ℕ) → k ≤ length writes → c ≤ k
+  pub last_change : (k c : ℕ) → k ≤ length writes → c ≤ k
       → ((i : ℕ) → k - c ≤ i → i < k → QuietAt i) ⊎ ((j : ℕ) × (k - c ≤ j) × (j < k) × ChangesAt j × ((i : ℕ) → j < i → i < k → QuietAt i))
   last_change k zero few low = inl (λ i past below. absurd (omega (arith, past, below)))
   last_change k (suc c) few low = either (last_change k c few (omega (arith, low)))
@@ -64,7 +64,7 @@ module _ (all : Bool) (d : List Sector) (made : ℕ) (writes : List DiskWrite) (
           ]
 
   -- what each of some writes leaves the same is the same after all
-  same_through : (id a c : ℕ) → a + c ≤ length writes → ((i : ℕ) (write : DiskWrite) → a ≤ i → i < a + c → slice_get writes i ≡ Some write → SameShape all (crash_state d writes i) (written write (crash_state d writes i)) id)
+  pub same_through : (id a c : ℕ) → a + c ≤ length writes → ((i : ℕ) (write : DiskWrite) → a ≤ i → i < a + c → slice_get writes i ≡ Some write → SameShape all (crash_state d writes i) (written write (crash_state d writes i)) id)
       → SameShape all (crash_state d writes a) (crash_state d writes (a + c)) id
   same_through id a zero few each = ap (λ (n : ℕ). option_map bare_file (disk_file all (crash_state d writes n) id)) (let z : a + 0 ≡ a = omega arith in z)
   same_through id a (suc c) few each =
@@ -100,7 +100,7 @@ module _ (all : Bool) (d : List Sector) (made : ℕ) (writes : List DiskWrite) (
         ∙ same_through id s j (omega (arith, low, long, order, few)) (λ i write past below here. each i write past (omega (arith, below, low, long, order)) here)
 
     -- no sync was made after s and before k
-    not_after : (j : ℕ) → j < k → Contains syncs (made + j) → j ≤ s
+    pub not_after : (j : ℕ) → j < k → Contains syncs (made + j) → j ≤ s
     not_after j below has = elim (cases_lt s j) [
       | inr low ↦ low
       | inl after ↦ absurd (let past = since.none_between (made + j) has (omega (arith, after)) in omega (arith, past, below))
@@ -181,13 +181,13 @@ module _ (all : Bool) (d : List Sector) (made : ℕ) (writes : List DiskWrite) (
       from_sync : apart_at.1 ≤ s
       from_sync = let low = apart_at.2 in not_after apart_at.1 (omega (arith, low, below)) apart_at.3
 
-      each : (i : ℕ) (write : DiskWrite) → s ≤ i → i < k → slice_get writes i ≡ Some write → IsQuiet all (crash_state d writes i) write ⊎ IsResize all id (crash_state d writes i) write
+      pub each : (i : ℕ) (write : DiskWrite) → s ≤ i → i < k → slice_get writes i ≡ Some write → IsQuiet all (crash_state d writes i) write ⊎ IsResize all id (crash_state d writes i) write
       each i write past low here = elim (cases_lt j i) [
         | inl after ↦ inl (quiet i after low write here)
         | inr by ↦ apart_at.5 i write (let z = from_sync in omega (arith, z, past)) by here
       ]
 
-      at_j : (write : DiskWrite) × (slice_get writes j ≡ Some write)
+      pub at_j : (write : DiskWrite) × (slice_get writes j ≡ Some write)
       at_j = get_some writes j (omega (arith, below, few))
 
       -- the file as it was then, but for its size
@@ -229,7 +229,7 @@ module _ (all : Bool) (d : List Sector) (made : ℕ) (writes : List DiskWrite) (
           let z : suc (j - suc c) ≡ j - c = omega (arith, low) in
           down (j - suc c) w.0 w.1 (each (j - suc c) w.0 (omega (arith, low, past_first)) (omega (arith, below)) w.1) (subst Like (sym z) (back c (omega (arith, low))))
 
-      forth : (c : ℕ) → s + c ≤ k → Like (s + c)
+      pub forth : (c : ℕ) → s + c ≤ k → Like (s + c)
       forth zero low = subst Like (let z : j - (j - s) ≡ s + 0 = omega (arith, past_first) in z) (back (j - s) (omega arith))
       forth (suc c) low =
           let w = get_some writes (s + c) (omega (arith, low, few)) in

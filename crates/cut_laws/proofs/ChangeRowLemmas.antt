@@ -1,15 +1,18 @@
 -- Changes of files with syncs between them, of calls in a row.
-use Rattle.std.proofs.Common.{◌≡◌, ◌⊎◌, inl, inr, ℕ, suc, ◌+◌, ◌<◌, Bool, false, List, ◌++◌, length, Some, sym, subst, arith}
+use Rattle.std.proofs.Common.{◌≡◌, ◌⊎◌, inl, inr, ℕ, suc, ◌+◌, ◌-◌, ◌<◌, ◌≤◌, Bool, false, List, ◌++◌, length, Some, sym, ◌∙◌, subst, arith}
 use Rattle.std.specs.Prelude.{slice_get, Contains}
 use Rattle.std.proofs.lemmas.Bool.{true≢false}
 use Rattle.std.proofs.lemmas.List.{length-append}
+use Rattle.std.proofs.lemmas.Option.{same_Some}
 use Rattle.labelled_disk.specs.declared.disk.DiskWrite.{DiskWrite}
+use Rattle.labelled_disk.specs.declared.disk.DiskWrite.TheVariants.{Whole, LabelOnly, Page}
 use Rattle.labelled_disk.specs.CrashState.{crash_state}
 use Rattle.labelled_disk.specs.Sectors.{Sector}
 use Rattle.labelled_disk.specs.WriteRuns.{after_writes}
 use Rattle.labelled_disk.proofs.WriteRunLemmas.{crash_state-earlier, crash_state-later}
-use Rattle.cut_laws.specs.ChangesApart.{IsLabelled, IsMark, IsQuiet, IsResize, ResizesApart}
-use Rattle.cut_laws.specs.ChangeRows.{ApartAreChangesApart, ApartLater, ApartThen, ApartWhetherFailed, AreApart, IsChangeApart}
+use Rattle.label_laws.specs.Cleared.{IsAfterClearing, IsCleared}
+use Rattle.cut_laws.specs.ChangesApart.{IsLabelled, IsMark, IsQuiet, IsResize}
+use Rattle.cut_laws.specs.ChangeRows.{ApartAreChangesApart, ApartLater, ApartThen, ApartWhetherFailed, AreApart, IsChangeApart, ResizesCleared}
 use Rattle.cut_laws.proofs.ApartRowLemmas.{place_in}
 
 pub apart_are_changes_apart : (all : Bool) → ApartAreChangesApart all
@@ -17,7 +20,7 @@ apart_are_changes_apart all syncs made d writes failed apart k write here = elim
   | inl quiet ↦ inl quiet
   | inr (inl mark) ↦ inr (inl mark)
   | inr (inr (inl goes)) ↦ inr (inr (inl (goes.0, goes.1, elim goes.2 [ inl has ↦ inl has | inr ended ↦ inr ended.1 ])))
-  | inr (inr (inr resizes)) ↦ inr (inr (inr resizes))
+  | inr (inr (inr r)) ↦ inr (inr (inr (r.0, r.1, r.2, r.3, λ other at. subst (IsResize all r.0 (crash_state d writes k)) (same_Some write other (sym here ∙ at)) r.4, r.6)))
 ]
 
 module _ (all : Bool) (syncs : List ℕ) (made : ℕ) (d : List Sector) (first next : List DiskWrite) (failed : Bool) (one : AreApart all syncs made d first false) (more : AreApart all syncs (made + length first) (after_writes first d) next failed) where
@@ -34,16 +37,23 @@ module _ (all : Bool) (syncs : List ℕ) (made : ℕ) (d : List Sector) (first n
     | inr (j, after, here) ↦ absurd (omega (arith, below, after))
   ]
 
-  early_resizes : (k : ℕ) → k < length first → ResizesApart all syncs made d first k → ResizesApart all syncs made d both k
-  early_resizes k below r = (
+  early_clearing : (since k : ℕ) (write : DiskWrite) → k < length first → IsAfterClearing d first since k write → IsAfterClearing d both since k write
+  early_clearing since k (Whole sector label page) below cleared = λ j past by.
+      early_at (λ x. (t : Sector) × (slice_get x sector ≡ Some t) × IsCleared t) j (omega (arith, by, below)) (cleared j past by)
+  early_clearing since k (LabelOnly sector label) below none = λ j i fresh page past by at. none j i fresh page past by (inside j (Whole i fresh page) (omega (arith, by, below)) at)
+  early_clearing since k (Page sector wanted page) below any = tt
+
+  early_resizes : (k : ℕ) (write : DiskWrite) → k < length first → ResizesCleared all syncs made d first k write → ResizesCleared all syncs made d both k write
+  early_resizes k write below r = (
     r.0,
     r.1,
     r.2,
     r.3,
-    λ write at. early_at (λ x. IsResize all r.0 x write) k below (r.4 write (inside k write below at)),
-    λ i write past by at.
+    early_at (λ x. IsResize all r.0 x write) k below r.4,
+    early_clearing r.1 k write below r.5,
+    λ i w past by at.
         let low : i < length first = omega (arith, by, below) in
-        early_at (λ x. IsQuiet all x write ⊎ IsResize all r.0 x write) i low (r.5 i write past by (inside i write low at)),
+        early_at (λ x. IsQuiet all x w ⊎ IsResize all r.0 x w) i low (r.6 i w past by (inside i w low at)),
   )
 
   early_apart : (k : ℕ) (write : DiskWrite) → k < length first → slice_get first k ≡ Some write → IsChangeApart all syncs made d both failed k write
@@ -56,7 +66,7 @@ module _ (all : Bool) (syncs : List ℕ) (made : ℕ) (d : List Sector) (first n
           (goes.1.0, early_at (λ x. IsLabelled all goes.1.0 x write) k below goes.1.1),
           elim goes.2 [ inl has ↦ inl has | inr ended ↦ absurd (true≢false (sym ended.0)) ],
         )))
-    | inr (inr (inr resizes)) ↦ inr (inr (inr (early_resizes k below resizes)))
+    | inr (inr (inr resizes)) ↦ inr (inr (inr (early_resizes k write below resizes)))
   ]
 
   -- one of the second
@@ -72,18 +82,32 @@ module _ (all : Bool) (syncs : List ℕ) (made : ℕ) (d : List Sector) (first n
     | inr (n, after, here) ↦ subst (λ (i : ℕ). slice_get next i ≡ Some write) (let z : n ≡ j = omega (arith, after) in z) here
   ]
 
-  late_resizes : (j : ℕ) → ResizesApart all syncs (made + length first) (after_writes first d) next j → ResizesApart all syncs made d both (length first + j)
-  late_resizes j r = (
+  -- a moment of the second row, counted from its begin
+  from_next : (P : ℕ → Type 0) (n : ℕ) → length first ≤ n → P (length first + (n - length first)) → P n
+  from_next P n past = subst P (let z : length first + (n - length first) ≡ n = omega (arith, past) in z)
+
+  late_clearing : (since j : ℕ) (write : DiskWrite) → IsAfterClearing (after_writes first d) next since j write → IsAfterClearing d both (length first + since) (length first + j) write
+  late_clearing since j (Whole sector label page) cleared = λ n past by.
+      from_next (λ i. (t : Sector) × (slice_get (crash_state d both i) sector ≡ Some t) × IsCleared t) n (omega (arith, past))
+      (late_at (λ x. (t : Sector) × (slice_get x sector ≡ Some t) × IsCleared t) (n - length first) (cleared (n - length first) (omega (arith, past)) (omega (arith, by, past))))
+  late_clearing since j (LabelOnly sector label) none = λ n i fresh page past by at.
+      none (n - length first) i fresh page (omega (arith, past)) (omega (arith, by, past))
+      (past_first (n - length first) (Whole i fresh page) (subst (λ (m : ℕ). slice_get both m ≡ Some (Whole i fresh page)) (let z : n ≡ length first + (n - length first) = omega (arith, past) in z) at))
+  late_clearing since j (Page sector wanted page) any = tt
+
+  late_resizes : (j : ℕ) (write : DiskWrite) → ResizesCleared all syncs (made + length first) (after_writes first d) next j write → ResizesCleared all syncs made d both (length first + j) write
+  late_resizes j write r = (
     r.0,
     length first + r.1,
     let low = r.2 in omega (arith, low),
     moved r.1 r.3,
-    λ write at. late_at (λ x. IsResize all r.0 x write) j (r.4 write (past_first j write at)),
-    λ i write past by at. elim (place_in first next i write at) [
+    late_at (λ x. IsResize all r.0 x write) j r.4,
+    late_clearing r.1 j write r.5,
+    λ i w past by at. elim (place_in first next i w at) [
       | inl (low, here) ↦ absurd (omega (arith, low, past))
       | inr (n, after, here) ↦
-          subst (λ (i : ℕ). IsQuiet all (crash_state d both i) write ⊎ IsResize all r.0 (crash_state d both i) write) (sym after)
-          (late_at (λ x. IsQuiet all x write ⊎ IsResize all r.0 x write) n (r.5 n write (omega (arith, past, after)) (omega (arith, by, after)) here))
+          subst (λ (i : ℕ). IsQuiet all (crash_state d both i) w ⊎ IsResize all r.0 (crash_state d both i) w) (sym after)
+          (late_at (λ x. IsQuiet all x w ⊎ IsResize all r.0 x w) n (r.6 n w (omega (arith, past, after)) (omega (arith, by, after)) here))
     ],
   )
 
@@ -100,7 +124,7 @@ module _ (all : Bool) (syncs : List ℕ) (made : ℕ) (d : List Sector) (first n
             | inr ended ↦ inr (ended.0, let last = ended.1 in let long : length both ≡ length first + length next = length-append first next in omega (arith, last, long))
           ],
         )))
-    | inr (inr (inr resizes)) ↦ inr (inr (inr (late_resizes j resizes)))
+    | inr (inr (inr resizes)) ↦ inr (inr (inr (late_resizes j write resizes)))
   ]
 
   both_apart : AreApart all syncs made d both failed
@@ -117,7 +141,7 @@ apart_later all syncs later made d writes failed more apart k write here = elim 
   | inl quiet ↦ inl quiet
   | inr (inl mark) ↦ inr (inl (more (made + k) mark.0, mark.1, mark.2))
   | inr (inr (inl goes)) ↦ inr (inr (inl (more (made + k) goes.0, goes.1, elim goes.2 [ inl has ↦ inl (more (made + suc k) has) | inr ended ↦ inr ended ])))
-  | inr (inr (inr r)) ↦ inr (inr (inr (r.0, r.1, r.2, more (made + r.1) r.3, r.4, r.5)))
+  | inr (inr (inr r)) ↦ inr (inr (inr (r.0, r.1, r.2, more (made + r.1) r.3, r.4, r.5, r.6)))
 ]
 
 pub apart_whether_failed : (all : Bool) → ApartWhetherFailed all

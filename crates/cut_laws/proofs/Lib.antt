@@ -25,6 +25,11 @@ pub mod LeaderWriteLemmas
 pub mod LabelsApartLemmas
 mod ApartRowLemmas
 pub mod ChangeRowLemmas
+pub mod PlainFreeLemmas
+mod SectorPageLemmas
+mod AddedPageLemmas
+pub mod AddedZeroLemmas
+pub mod NewPageLemmas
 pub mod WholeLemmas
 mod WholeWriteLemmas
 mod ResizeLemmas

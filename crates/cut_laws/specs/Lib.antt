@@ -8,6 +8,7 @@ pub mod Honest
 pub mod LabelsApart
 pub mod LeaderWrites
 pub mod Mixes
+pub mod NewPages
 pub mod OneCrashState
 pub mod OwnBytes
 pub mod OwnRuns

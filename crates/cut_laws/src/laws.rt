@@ -11,6 +11,7 @@ ghost use Rattle.cut_laws.specs.Honest.{CutsAreHonest};
 ghost use Rattle.cut_laws.specs.LabelsApart.{LabelsApartAreChangesApart, LabelsApartThen, PagesAreApart};
 ghost use Rattle.cut_laws.specs.LeaderWrites.{LeadersChangeByLabels};
 ghost use Rattle.cut_laws.specs.Mixes.{MixLaws};
+ghost use Rattle.cut_laws.specs.NewPages.{NewIsPlain, NewPagesAreOwn, PagesAreAddedAsZeros, PlainFreeStays};
 ghost use Rattle.cut_laws.specs.OneCrashState.{OneChangeIsOneCrashState, ResizedIsOfOneCrashState};
 ghost use Rattle.cut_laws.specs.OwnBytes.{OwnBytes};
 ghost use Rattle.cut_laws.specs.OwnRuns.{OwnRunLaws};
@@ -84,6 +85,15 @@ pub fn labels_apart_are_changes_apart()
     ensures apart { LabelsApartAreChangesApart }
     ensures rows { LabelsApartThen }
     ensures pages { PagesAreApart }
+{}
+
+/// A page that a file got since the last sync is made of what stood in it since. Where it was added, zeros stood there
+/// first.
+pub fn new_pages_are_own()
+    ensures fresh { NewIsPlain }
+    ensures plain { PlainFreeStays }
+    ensures own { (with_temporary : Bool) → NewPagesAreOwn with_temporary }
+    ensures zeros { (with_temporary : Bool) → PagesAreAddedAsZeros with_temporary }
 {}
 
 /// Sectors that no file needs are freed, and root and maps are written: each cut has the files.

@@ -1,6 +1,7 @@
 pub mod AllPermanent
 pub mod AnyDisk
 pub mod Assembly
+pub mod Cleared
 pub mod Counts
 pub mod LabelWrites
 pub mod PermittedOrders
