@@ -36,7 +36,7 @@ pub not_named : (wanted : Wanted) (found : Label) → names found wanted ≡ fal
 not_named wanted found other named = true≢false (sym named ∙ other)
 
 -- the sector of a label that names the page
-named_sector : (o : Option Sector) (wanted : Wanted) → option_map (λ s. names s.0 wanted) o ≡ Some true → (s : Sector) × (o ≡ Some s) × (names s.0 wanted ≡ true)
+pub named_sector : (o : Option Sector) (wanted : Wanted) → option_map (λ s. names s.0 wanted) o ≡ Some true → (s : Sector) × (o ≡ Some s) × (names s.0 wanted ≡ true)
 named_sector None wanted is = absurd (none-some true is)
 named_sector (Some s) wanted is = (s, refl, same_Some (names s.0 wanted) true is)
 
@@ -50,7 +50,7 @@ pub page_form : (bytes : List ℕ) → length bytes ≡ 512 → ((k : ℕ) → g
 page_form bytes long fits = (long, All-from_get_or (λ b. b < 256) bytes 0 (λ k below. fits k))
 
 -- what a write of a page makes of sectors of which one has a label that names it
-put_is : (sector : ℕ) (wanted : Wanted) (bytes : List ℕ) (d : List Sector) (s : Sector) → slice_get d sector ≡ Some s → names s.0 wanted ≡ true
+pub put_is : (sector : ℕ) (wanted : Wanted) (bytes : List ℕ) (d : List Sector) (s : Sector) → slice_get d sector ≡ Some s → names s.0 wanted ≡ true
     → written (write.Page sector wanted bytes) d ≡ slice_set d sector (s.0, bytes)
 put_is sector wanted bytes d s here named =
     ap (λ (o : Option Sector). option_map_or (λ (old : Sector). if names old.0 wanted then slice_set d sector (old.0, bytes) else d) o d) here

@@ -1,6 +1,5 @@
 -- Labels of one file in a row, each written over the one that was read.
-use Rattle.std.proofs.Common.{◌≡◌, ◌≢◌, ℕ, zero, suc, ◌+◌, ◌<◌, true, List, [], ◌∷◌, ◌++◌, map, refl, sym, ◌∙◌, ap, subst, arith}
-use Rattle.std.specs.Prelude.{slice_get}
+use Rattle.std.proofs.Common.{◌≡◌, ◌≢◌, ℕ, zero, suc, ◌<◌, true, List, [], ◌∷◌, map, refl, sym, ◌∙◌, subst, arith}
 use Rattle.std.specs.List.{range_with_len}
 use Rattle.std.proofs.lemmas.Bool.Decides.{nat_tests}
 use Rattle.std.proofs.lemmas.Option.{same_Some, none-some}
@@ -13,31 +12,19 @@ use Rattle.labelled_disk.specs.Label.{names}
 use Rattle.labelled_disk.specs.Sectors.{Sector}
 use Rattle.labelled_disk.specs.State.{DiskState}
 use Rattle.labelled_disk.specs.WriteRuns.{after_writes}
-use Rattle.labelled_disk.proofs.WriteRunLemmas.{after_writes-append}
 use Rattle.frame_pool.specs.Frames.{Slots}
 use Rattle.label_calls.specs.Labels.{Labels, HasOne}
 use Rattle.label_calls.specs.OwnLaws.{AreOverOwn, AreWhole, WroteOwn, one_over, over_then, whole_own}
-use Rattle.label_calls.proofs.RunLemmas.{IsSoFar, turns, turns_more, write_elsewhere}
+use Rattle.label_calls.proofs.RunLemmas.{IsSoFar, turns, turns_next, turns_elsewhere}
 
 -- a label that names a page has its file
 pub of_page : (wanted : Wanted) (label : Label) → names label wanted ≡ true → label.id ≡ wanted.id
 of_page wanted label named = grind (arith, nat_tests)
 
-turns_next : (f : ℕ → DiskWrite) (k : ℕ) → turns f (suc k) ≡ turns f k ++ f k ∷ []
-turns_next f k = let z : suc k ≡ k + 1 = omega arith in ap (turns f) z ∙ turns_more f k
-
 module _ (place : ℕ → ℕ) (label : Label) where
   -- the label of each turn
   abbrev each : ℕ → DiskWrite
   each k = write.LabelOnly (place k) label
-
-  elsewhere : (k : ℕ) (d : List Sector) (j : ℕ) → ((i : ℕ) → i < k → j ≢ place i) → slice_get (after_writes (turns each k) d) j ≡ slice_get d j
-  elsewhere zero d j apart = refl
-  elsewhere (suc k) d j apart =
-      ap (λ (run : List DiskWrite). slice_get (after_writes run d) j) (turns_next each k)
-      ∙ ap (λ (l : List Sector). slice_get l j) (sym (after_writes-append (turns each k) (each k ∷ []) d))
-      ∙ write_elsewhere (each k) (place k) j (after_writes (turns each k) d) refl (apart k (omega arith))
-      ∙ elsewhere k d j (λ i below. apart i (omega (arith, below)))
 
   -- where each place has a label of this identifier, the labels of the turns are written over such
   over_turns : (id : ℕ) (labels : ℕ → Labels) → ((i : ℕ) (l : Label) → labels i l → l.id ≡ id) → (k : ℕ) → ((i : ℕ) → i < k → (j : ℕ) → j < i → place i ≢ place j)
@@ -48,7 +35,7 @@ module _ (place : ℕ → ℕ) (label : Label) where
       (over_turns id labels of_id k (λ i below. apart i (omega (arith, below))) d (λ i below. found i (omega (arith, below))))
       (one_over id (place k) label (after_writes (turns each k) d) (λ s here.
       let one = found k (omega arith) in
-      let same : one.0 ≡ s = same_Some one.0 s (sym one.1 ∙ sym (elsewhere k d (place k) (apart k (omega arith))) ∙ here) in
+      let same : one.0 ≡ s = same_Some one.0 s (sym one.1 ∙ sym (turns_elsewhere place each (λ i. refl) k d (place k) (apart k (omega arith))) ∙ here) in
       of_id k s.0 (subst (λ (t : Sector). labels k t.0) same one.2))))
 
 -- the turns that are over wrote over labels of this identifier

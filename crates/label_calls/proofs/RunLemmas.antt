@@ -1,5 +1,5 @@
 -- One label after the other.
-use Rattle.std.proofs.Common.{◌≡◌, ◌≢◌, ◌⊎◌, inl, inr, ℕ, zero, suc, ◌+◌, ◌*◌, ◌≤◌, ◌<◌, List, [], ◌∷◌, ◌++◌, map, Option, Some, None, refl, sym, ◌∙◌, ap, subst, arith}
+use Rattle.std.proofs.Common.{◌≡◌, ◌≢◌, inl, inr, ℕ, zero, suc, ◌+◌, ◌*◌, ◌≤◌, ◌<◌, List, [], ◌∷◌, ◌++◌, map, Option, Some, None, refl, sym, ◌∙◌, ap, subst, arith}
 use Rattle.std.specs.Prelude.{slice_get, slice_set, option_map, take}
 use Rattle.std.specs.List.{range_with_len}
 use Rattle.std.specs.Option.{option_map_or}
@@ -49,6 +49,18 @@ turns f k = map f (range_with_len 0 k)
 
 pub turns_more : (f : ℕ → DiskWrite) (k : ℕ) → turns f (k + 1) ≡ turns f k ++ f k ∷ []
 turns_more f k = map-range_with_len_more f 0 k k (omega arith)
+
+pub turns_next : (f : ℕ → DiskWrite) (k : ℕ) → turns f (suc k) ≡ turns f k ++ f k ∷ []
+turns_next f k = let z : suc k ≡ k + 1 = omega arith in ap (turns f) z ∙ turns_more f k
+
+-- they leave the sectors that aren't in their places
+pub turns_elsewhere : (place : ℕ → ℕ) (f : ℕ → DiskWrite) → ((i : ℕ) → IsLabelled (f i) (place i)) → (k : ℕ) (d : List Sector) (j : ℕ) → ((i : ℕ) → i < k → j ≢ place i) → slice_get (after_writes (turns f k) d) j ≡ slice_get d j
+turns_elsewhere place f is zero d j apart = refl
+turns_elsewhere place f is (suc k) d j apart =
+    ap (λ (run : List DiskWrite). slice_get (after_writes run d) j) (turns_next f k)
+    ∙ ap (λ (l : List Sector). slice_get l j) (sym (after_writes-append (turns f k) (f k ∷ []) d))
+    ∙ write_elsewhere (f k) (place k) j (after_writes (turns f k) d) (is k) (apart k (omega arith))
+    ∙ turns_elsewhere place f is k d j (λ i below. apart i (omega (arith, below)))
 
 -- At turn i a label is written into the sector of its place. The first k turns are over.
 pub record IsSoFar (place : ℕ → ℕ) (f : ℕ → DiskWrite) (labels : ℕ → Labels) (covered : Type 0) (old : DiskState) (slots : Slots) (layout : Layout) (new : DiskState) (after : Slots) (later : Layout) (k : ℕ) : Type 0 where

@@ -1,4 +1,6 @@
 pub mod Bytes
+pub mod ClearedLaws
+pub mod Clearing
 pub mod Fails
 pub mod Labels
 pub mod Own

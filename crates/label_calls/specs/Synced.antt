@@ -1,5 +1,5 @@
 -- Labels of permanent files' leaders, and the syncs around what is written over them.
-use Rattle.std.specs.Prelude.{◌≡◌, ◌⊎◌, ℕ, suc, ◌+◌, Bool, true, false, List, ◌++◌, length, Some, slice_get, Contains, MatchResult, Result}
+use Rattle.std.specs.Prelude.{◌≡◌, ◌⊎◌, ℕ, suc, ◌+◌, ◌≤◌, Bool, true, false, List, ◌++◌, length, Some, slice_get, Contains, MatchResult, Result}
 use Rattle.labelled_disk.specs.declared.evidence.Halt.{Halt}
 use Rattle.labelled_disk.specs.declared.label.Label.{Label}
 use Rattle.labelled_disk.specs.declared.disk.DiskWrite.{DiskWrite}
@@ -8,6 +8,8 @@ use Rattle.labelled_disk.specs.CrashState.{crash_state}
 use Rattle.labelled_disk.specs.Label.{is_free, is_permanent}
 use Rattle.labelled_disk.specs.Sectors.{Sector}
 use Rattle.labelled_disk.specs.State.{DiskState}
+use Rattle.label_laws.specs.Cleared.{IsAfterClearing}
+use Rattle.swapper_kernel.specs.Goes.{is_page_write}
 use Rattle.label_calls.specs.Own.{RelabelsOwn}
 
 -- The label `now` is written over `was`, after n writes. Where either is that of a permanent file's leader the disk was synced
@@ -47,3 +49,18 @@ SyncsAroundOne failed was now old new = (earlier : List DiskWrite) (before syncs
 abbrev pub SyncedThere : DiskState → DiskState → Type 0
 SyncedThere old new = (earlier : List DiskWrite) (before syncs : List ℕ) → old.writes ≡ Some earlier → old.syncs ≡ Some before
     → new.syncs ≡ Some syncs → Contains syncs (length earlier)
+
+-- Each label among these writes, made from this state on after n others, comes after a sync that was made since, or an earlier one with
+-- nothing written since; where the contents are told, over what had been cleared by then.
+abbrev pub AreAfterSync : DiskState → List ℕ → ℕ → List DiskWrite → Type 0
+AreAfterSync old syncs n writes = (k : ℕ) (w : DiskWrite) → slice_get writes k ≡ Some w → is_page_write w ≡ false
+    → (s : ℕ) × (s ≤ k) × Contains syncs (n + s) × ((d : List Sector) → old.contents ≡ Some d → IsAfterClearing d writes s k w)
+
+-- Each label that was written between the two states comes after a sync that was made between them, or an earlier one with nothing
+-- written since; where the contents are told, a fresh one over a sector that had been cleared by then, one without a page after no fresh
+-- one. So once one is written all that was written before the first of the two is on the medium. So are the zeros under a fresh one,
+-- where the free label of its sector was plain (identifier 0, page 0, flags below 4, last byte 0); under another free label the page may
+-- be anything.
+pub record LabelsAfterSync (old new : DiskState) : Type 0 where
+  pub after : (earlier writes : List DiskWrite) (before syncs : List ℕ) → old.writes ≡ Some earlier → new.writes ≡ Some (earlier ++ writes)
+      → old.syncs ≡ Some before → new.syncs ≡ Some syncs → AreAfterSync old syncs (length earlier) writes

@@ -1,5 +1,5 @@
 //! A label read or written, and a sync.
-ghost use Rattle.std.specs.Prelude.{◌≡◌, ◌⊎◌, ◌||◌, ◌<◌, ◌≤◌, ◌+◌, true, false, [], IfOk, IfErr, OnErr, OnOk};
+ghost use Rattle.std.specs.Prelude.{◌≡◌, ◌⊎◌, ◌||◌, ◌<◌, ◌≤◌, ◌+◌, true, false, [], IfOk, IfErr, MatchResult, OnErr, OnOk};
 ghost use Rattle.labelled_disk.specs.declared.disk.DiskWrite.TheVariants as write;
 ghost use Rattle.labelled_disk.specs.declared.evidence.Halt.TheVariants as halt;
 ghost use Rattle.labelled_disk.specs.Label.{is_permanent};
@@ -45,10 +45,10 @@ fn write_label<D: Disk, A: Allocator>(
     label: Label,
 ) -> Result<(), Halt>
     requires { sector < (D.state swapper.old.disk).sectors }
-    ensures writes { OnOk result
-        (RevealsWrite (write.LabelOnly sector label) (D.state swapper.old.disk) (D.state swapper.new.disk)) }
-    ensures stopped { OnErr result
-        (RevealsSame (D.state swapper.old.disk) (D.state swapper.new.disk)
+    ensures writes { MatchResult result
+        (λ _. RevealsWrite (write.LabelOnly sector label) (D.state swapper.old.disk) (D.state swapper.new.disk))
+        (λ _.
+        RevealsSame (D.state swapper.old.disk) (D.state swapper.new.disk)
         ⊎ RevealsWrite (write.LabelOnly sector label) (D.state swapper.old.disk) (D.state swapper.new.disk)) }
     ensures moves { Moves (D.state swapper.old.disk) (D.state swapper.new.disk) }
     ensures cause { IfErr result
@@ -180,10 +180,10 @@ pub(crate) fn write_fresh<D: Disk, A: Allocator>(
     label: Label,
 ) -> Result<(), Halt>
     requires { sector < (D.state swapper.old.disk).sectors }
-    ensures writes { OnOk result
-        (RevealsWrite (write.Whole sector label zero_bytes) (D.state swapper.old.disk) (D.state swapper.new.disk)) }
-    ensures stopped { OnErr result
-        (RevealsSame (D.state swapper.old.disk) (D.state swapper.new.disk)
+    ensures writes { MatchResult result
+        (λ _. RevealsWrite (write.Whole sector label zero_bytes) (D.state swapper.old.disk) (D.state swapper.new.disk))
+        (λ _.
+        RevealsSame (D.state swapper.old.disk) (D.state swapper.new.disk)
         ⊎ RevealsWrite (write.Whole sector label zero_bytes) (D.state swapper.old.disk) (D.state swapper.new.disk)) }
     ensures moves { Moves (D.state swapper.old.disk) (D.state swapper.new.disk) }
     ensures cause { IfErr result

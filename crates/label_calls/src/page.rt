@@ -6,6 +6,7 @@ ghost use Rattle.labelled_disk.specs.Runs.{zero_bytes};
 ghost use Rattle.labelled_disk.specs.Sectors.{Sector, free_label};
 ghost use Rattle.labelled_disk.specs.State.{HasLabel};
 ghost use Rattle.labelled_disk.specs.declared.label.Label.{Label};
+ghost use Rattle.label_calls.specs.Clearing.{MayBeFresh};
 ghost use Rattle.label_calls.specs.Fails.{FailsBy};
 ghost use Rattle.label_calls.specs.Labels.{AreData, HasOne, IsFresh, IsNotOf, IsTaken, MayMark, MayRelabel, Relabels, free_ones, ones_of, with_mark};
 ghost use Rattle.label_calls.specs.Own.{RelabelsOwn};
@@ -56,6 +57,8 @@ pub fn make_page<D: Disk, A: Allocator>(
     ensures layout { swapper.new.layout ≡ swapper.old.layout }
     ensures cost { (D.state swapper.new.disk).transfers ≤ (D.state swapper.old.disk).transfers + 2 }
     ensures own { (other : ℕ) → RelabelsOwn other (D.state swapper.old.disk) (D.state swapper.new.disk) }
+    ensures alone { OnErr result
+        (MayBeFresh sector label (D.state swapper.old.disk) (D.state swapper.new.disk)) }
 {
     let found = match read_label(swapper, sector) {
         Ok(found) => found,

@@ -3,6 +3,7 @@ ghost use Rattle.std.specs.Prelude.{◌≡◌, ◌⊎◌, ◌<◌, ◌≤◌, �
 ghost use Rattle.std.specs.List.{range_with_len};
 ghost use Rattle.labelled_disk.specs.Runs.{freeing, growth};
 ghost use Rattle.labelled_disk.specs.Sectors.{Sector};
+ghost use Rattle.label_calls.specs.Clearing.{WritesFresh};
 ghost use Rattle.label_calls.specs.Fails.{FailsBy};
 ghost use Rattle.label_calls.specs.Labels.{AreData, free_ones, ones_of};
 ghost use Rattle.label_calls.specs.Own.{RelabelsOwn};
@@ -40,6 +41,7 @@ pub fn make_pages<D: Disk, A: Allocator>(
     ensures layout { swapper.new.layout ≡ swapper.old.layout }
     ensures cost { (D.state swapper.new.disk).transfers ≤ (D.state swapper.old.disk).transfers + 2 * pages }
     ensures own { (other : ℕ) → RelabelsOwn other (D.state swapper.old.disk) (D.state swapper.new.disk) }
+    ensures fresh { WritesFresh sector pages (D.state swapper.old.disk) (D.state swapper.new.disk) }
 {
     for k in 0..pages {
         let label = Label::of_page(id, kind, page + k);

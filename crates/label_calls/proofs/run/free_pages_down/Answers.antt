@@ -6,7 +6,7 @@ use Rattle.labelled_disk.specs.Runs.{freeing}
 use Rattle.labelled_disk.specs.Sectors.{free_label}
 use Rattle.label_calls.specs.Labels.{IsNotOf, ones_of}
 use Rattle.label_calls.specs.Runs.{AreRight, IsOneNotOf}
-use Rattle.label_calls.proofs.RunLemmas.{so_far_none, so_far_more, one_still_there, fails_before, run_is, freeing_is, not_of_before, named_some}
+use Rattle.label_calls.proofs.RunLemmas.{so_far_none, so_far_more, fails_before, run_is, freeing_is, not_of_before, named_some}
 use Rattle.label_calls.specs.OwnLaws.{relabels_own, own_then, may_own, relabelled}
 use Rattle.swapper_kernel.specs.GoesLaws.{went_itself}
 use Rattle.label_calls.specs.SyncedLaws.{syncs_around, same_synced, wrote_synced, around_after, may_synced}

@@ -5,8 +5,9 @@ use Rattle.labelled_disk.specs.Runs.{growth, zero_bytes}
 use Rattle.labelled_disk.specs.Label.{page_label}
 use Rattle.label_calls.specs.Labels.{IsTaken, free_ones}
 use Rattle.label_calls.specs.Runs.{AreRight, IsOneTaken}
-use Rattle.label_calls.proofs.RunLemmas.{turns, so_far_none, so_far_more, one_still_there, fails_before, named_some, run_is, growth_is, taken_before}
+use Rattle.label_calls.proofs.RunLemmas.{turns, so_far_none, so_far_more, fails_before, named_some, run_is, growth_is, taken_before}
 use Rattle.label_calls.specs.OwnLaws.{relabels_own, own_then, may_own, relabelled}
+use Rattle.label_calls.proofs.FreshLemmas.{fresh_stopped, fresh_turns}
 use Rattle.label_calls.proofs.OwnLemmas.{so_far_whole}
 use Rattle.label_calls.proofs.run.make_pages.Goals as goal
 
@@ -55,3 +56,13 @@ returns-clause-made g c =
       were = λ d revealed k below. c.loop-k.invariant.found d revealed k (omega (arith, all, below));
       relabels = run_is (λ k. c.args.sector + k) (λ k. write.Whole (c.args.sector + k) (page_label c.args.id c.args.kind (c.args.page + k)) zero_bytes) _ c.args.sector c.args.pages _ _ _ _ _ _ _ (all_are c.args.id c.args.kind c.args.page c.args.sector c.args.pages) so_far;
     }
+
+pub returns-in-Err-clause-fresh : goal.returns-in-Err-clause-fresh
+returns-in-Err-clause-fresh g c =
+    let below : c.loop-k.k < c.args.pages = search rules in
+    fresh_stopped c.args.sector (λ k. page_label c.args.id c.args.kind (c.args.page + k)) c.args.pages c.loop-k.k below c.loop-k.invariant (rw c.of_page-label.ensures at c.in-Err.ensures.alone)
+
+pub returns-clause-fresh : goal.returns-clause-fresh
+returns-clause-fresh g c =
+    let all : c.loop-k.k ≡ c.args.pages = search rules in
+    fresh_turns c.args.sector (λ k. page_label c.args.id c.args.kind (c.args.page + k)) c.args.pages c.loop-k.k (omega (arith, all)) c.loop-k.invariant.appended c.loop-k.invariant.found
