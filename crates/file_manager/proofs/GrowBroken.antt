@@ -1,5 +1,5 @@
 -- What a growth that stopped has written.
-use Rattle.std.proofs.Common.{◌≡◌, ◌≢◌, ℕ, ◌+◌, ◌-◌, ◌<◌, ◌≤◌, true, false, List, [], ◌∷◌, ◌++◌, length, take, refl, sym, ◌∙◌, ap, subst, arith}
+use Rattle.std.proofs.Common.{◌≡◌, ◌≢◌, ℕ, ◌+◌, ◌-◌, ◌<◌, ◌≤◌, Bool, true, false, List, [], ◌∷◌, ◌++◌, length, take, refl, sym, ◌∙◌, ap, subst, arith}
 use Rattle.std.specs.Prelude.{slice_get, slice_set}
 use Rattle.std.specs.List.{AllByRecursion}
 use Rattle.std.proofs.lemmas.Bool.{true≢false, ne_eqb}
@@ -26,9 +26,10 @@ use Rattle.swapper_kernel.specs.DiffersLaws.{sector_of_label}
 use Rattle.swapper_kernel.specs.Homes.{IsLayout}
 use Rattle.swapper_kernel.specs.Stands.{labels_of}
 use Rattle.swapper_kernel.specs.Goes.{Makes}
-use Rattle.swapper_kernel.specs.GoesLaws.{makes_then, makes_wider}
+use Rattle.swapper_kernel.specs.GoesLaws.{makes_then}
 use Rattle.swapper_kernel.specs.Window.{Beside}
-use Rattle.label_calls.specs.Runs.{RelabelsRun, MadeSome}
+use Rattle.label_calls.specs.Clearing.{NamedCleared, RelabelsCleared}
+use Rattle.label_calls.specs.Labels.{free_ones}
 use Rattle.filer_kernel.specs.declared.cached.CachedRuns.{CachedRuns}
 use Rattle.session_words.specs.Parts.{Shape, Shapes}
 use Rattle.session_words.specs.GrowLaws.{IsFree, AreFree, Grows, grown_labels}
@@ -37,7 +38,7 @@ use Rattle.file_manager.specs.Book.{BooksUpto, Leads}
 use Rattle.file_manager.specs.Broken.{GrewSome}
 use Rattle.file_manager.specs.Making.{AreUnownedUpto, ShowsNoFree, MayGrowUpto, free_count, sectors_of}
 use Rattle.file_manager.proofs.GrowSteps.{free_append, growth_append}
-use Rattle.file_manager.proofs.RunLeads.{map_makes, added_makes, take_all}
+use Rattle.file_manager.proofs.RunLeads.{map_makes, added_makes, some_labelled, take_all}
 use Rattle.file_manager.proofs.UpLemmas.{after, books_then, unowned_then, some_then}
 use Rattle.file_manager.proofs.UpTo.{IsUpTo, take_past}
 
@@ -48,17 +49,17 @@ none_grew beside = record { sectors = []; few = omega arith; free = tt; count = 
 module _ {layout l1 : Layout} {a b c : DiskState} {s t u : Slots} {most : ℕ} {x : List Sector} (run : Run) (kind : ℕ) (first : Beside AllocationMap a s layout b t l1) (same : u ≡ t)
     (few : run.pages ≤ most) (free : AreFree run.id kind run.first (sectors_of run) (labels_of x)) where
   -- among them
-  pub labels_grew : MadeSome (growth run.id kind run.first (sectors_of run)) b t c → GrewSome run.id kind run.first most x a s c u
+  pub labels_grew : NamedCleared (λ k. run.sector + k) (λ k. free_ones) (growth run.id kind run.first (sectors_of run)) b t c → GrewSome run.id kind run.first most x a s c u
   labels_grew some = record {
     sectors = sectors_of run;
     few = let long = length-range_with_len run.sector run.pages in omega (arith, long, few);
     free = free;
     count = some.count;
-    makes = subst (Makes volume_page (take some.count (growth run.id kind run.first (sectors_of run))) a s c) (sym same) (makes_then (map_makes first) (makes_wider volume_page (λ id page none. absurd none) some.makes));
+    makes = some_labelled run kind first same some;
   }
 
   -- after them
-  pub all_grew : {d : DiskState} {v : Slots} {l2 l3 : Layout} → RelabelsRun run.sector run.pages (growth run.id kind run.first (sectors_of run)) b t c → Beside FileMap c u l2 d v l3 → GrewSome run.id kind run.first most x a s d v
+  pub all_grew : {d : DiskState} {v : Slots} {l2 l3 : Layout} → RelabelsCleared run.sector run.pages (growth run.id kind run.first (sectors_of run)) b t c → Beside FileMap c u l2 d v l3 → GrewSome run.id kind run.first most x a s d v
   all_grew {d = d} {v = v} made last = record {
     sectors = sectors_of run;
     few = let long = length-range_with_len run.sector run.pages in omega (arith, long, few);
@@ -74,8 +75,8 @@ few_more : (n a b from page end : ℕ) → n ≡ a + b → a ≡ page - from →
 few_more n a b from page end sum long few above below = omega (arith, sum, long, few, above, below)
 
 -- after pages that were made
-module _ (id kind from end page : ℕ) (d0 : DiskState) (s0 : Slots) (layout : Layout) (is_layout : IsLayout layout) (kept : CachedRuns) (d : DiskState) (s : Slots) (later : Layout) (runs : CachedRuns)
-    (up : IsUpTo id kind from end page d0 s0 layout kept d s later runs) (short : end < leader_page) where
+module _ {clears : Bool} (id kind from end page : ℕ) (d0 : DiskState) (s0 : Slots) (layout : Layout) (is_layout : IsLayout layout) (kept : CachedRuns) (d : DiskState) (s : Slots) (later : Layout) (runs : CachedRuns)
+    (up : IsUpTo clears id kind from end page d0 s0 layout kept d s later runs) (short : end < leader_page) where
   pub up_broken : (d2 : DiskState) (s2 : Slots) → page < end
       → ((tables : ℕ) (x : List Sector) (shapes : Shapes) (spaces : List Space) → BooksUpto tables d s later runs shapes spaces x → ShowsNoFree spaces → AreUnownedUpto tables shapes id page (end - page) → 1 ≤ free_count later x → GrewSome id kind page (end - page) x d s d2 s2)
       → (tables : ℕ) (x : List Sector) (shapes : Shapes) (spaces : List Space) (f : Shape) → MayGrowUpto tables d0 s0 layout kept shapes spaces id f end x → f.size ≡ from → GrewSome id kind from (end - from) x d0 s0 d2 s2

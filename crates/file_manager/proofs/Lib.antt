@@ -69,3 +69,4 @@ pub mod TabledUpTo
 pub mod KeptUpTo
 pub mod RootKeeps
 pub mod SyncSteps
+pub mod ClearedRun

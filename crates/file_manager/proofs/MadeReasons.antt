@@ -31,7 +31,8 @@ use Rattle.swapper_kernel.specs.Maps.{IsMapHome}
 use Rattle.swapper_kernel.specs.Stands.{Stands}
 use Rattle.swapper_kernel.specs.Window.{Beside, in_map}
 use Rattle.label_calls.specs.Labels.{free_ones}
-use Rattle.label_calls.specs.Runs.{HaveOnes, RelabelsRun, IsOneTaken, NamedSome}
+use Rattle.label_calls.specs.Clearing.{NamedCleared, RelabelsCleared}
+use Rattle.label_calls.specs.Runs.{IsOneTaken}
 use Rattle.filer_kernel.specs.Becomes.{Becomes}
 use Rattle.filer_kernel.specs.Causes.{AddHalts, IsFaultOrMost}
 use Rattle.filer_kernel.specs.Marks.{Marks, BitsAre, AreAll, marked}
@@ -162,7 +163,7 @@ module _ {o : InitialState} {x l1 : Layout} {k : List Run} {a b : DiskState} {s 
 
   -- ---- Labels are written.
 
-  module _ (run : Run) (kind : ℕ) {c : DiskState} (some : NamedSome (λ k. run.sector + k) (λ k. free_ones) (growth run.id kind run.first (sectors_of run)) b t c) where
+  module _ (run : Run) (kind : ℕ) {c : DiskState} (some : NamedCleared (λ k. run.sector + k) (λ k. free_ones) (growth run.id kind run.first (sectors_of run)) b t c) where
     -- a sector whose label wasn't free got none in the writes that were made
     unwritten : (j : ℕ) (place : ℕ) (found : Label) → place ≡ run.sector + j → HasLabel b (run.sector + j) found → is_free found ≡ false → TakesNot (take some.count (growth run.id kind run.first (sectors_of run))) place
     unwritten j place found at has other = takes_not (take some.count (growth run.id kind run.first (sectors_of run))) place (λ id page turn w got gives.
@@ -192,13 +193,13 @@ module _ {o : InitialState} {x l1 : Layout} {k : List Run} {a b : DiskState} {s 
 
 module _ {o : InitialState} {x l1 l3 : Layout} {k : List Run} {a b c d : DiskState} {s t u : Slots} {named : Triples} (h : KeepsTo o x k a s named) (is : IsLayout x) (run : Run) (kind most : ℕ) (form : IsDataRun x.first x.sectors most (run.sector, run.pages))
     (taken : Beside AllocationMap a s x b t l1) (marked_so : (m : List Sector) (marks : Marks) → Stands a s m → BitsAre x marks m → Becomes AllocationMap x m (BitsAre x (marked true run.sector run.pages marks)) b t)
-    (made : RelabelsRun run.sector run.pages (growth run.id kind run.first (sectors_of run)) b t c) (were : (d : List Sector) → b.contents ≡ Some d → HaveOnes (λ k. free_ones) d run.sector run.pages)
+    (made : RelabelsCleared run.sector run.pages (growth run.id kind run.first (sectors_of run)) b t c)
     (beside : Beside FileMap c t x d u l3) (makes : Makes volume_page (growth run.id kind run.first (sectors_of run)) a s d u) (nothing : NamesNoneOf run.id (λ page. (run.first ≤ page) × (page < run.first + run.pages)) named) where
   mid : (n : List Sector) × Stands c t n × IsLabelledFor x run.id h.memory n
-  mid = labelled is run kind most form taken marked_so made were h.unframed h.memory h.stands
+  mid = labelled is run kind most form taken marked_so made h.unframed h.memory h.stands
 
   map_mid : MapIs x named mid.0
-  map_mid = map_then is run kind most form taken marked_so made were h.memory mid.0 named mid.2 h.map
+  map_mid = map_then is run kind most form taken marked_so made h.memory mid.0 named mid.2 h.map
 
   come : Brings (IsMapsHome x) s u
   come = brings_then (maps_come taken) (maps_come beside)
@@ -279,7 +280,7 @@ module _ {o : InitialState} {x l1 l3 : Layout} {k : List Run} {a b c d : DiskSta
   run_keeps may_take untold added =
       let more = added mid.0 named mid.1 map_mid (new_run run named nothing) in
       let later = marked true run.sector run.pages h.marks in
-      let bits = labelled_bits is run kind most form taken marked_so made were h.unframed h.memory h.stands h.marks h.bits mid.0 mid.1 in
+      let bits = labelled_bits is run kind most form taken marked_so made h.unframed h.memory h.stands h.marks h.bits mid.0 mid.1 in
       keeps_after h makes more.memory more.stands (with_run named run) more.is given k (are_more named run k h.kept) (λ home held. elim (come.homes home held) [ inl was ↦ inl was | inr own ↦ inr (inl own) ])
       (unframed_still come h.unframed) (over_left named (with_run named run) 0 h.over come (λ zero. absurd (omega (arith, zero))) (λ other page sector was. ap (λ (b : Bool). b || run_names run 3 page sector) was)) later (bits_beside x later mid.0 more.memory more.differs bits) (λ sector from below free. inl (free_before run.sector run.pages sector h.marks free, untaken sector free))
       (λ home from may was. inl (ap (λ (b : Bool). b || run_names run home.id home.page home.sector) was)) (λ home from may. others home) (λ sector from below is. used_then sector is) no_root (takes may_take)

@@ -25,8 +25,8 @@ use Rattle.swapper_kernel.specs.HaltLaws.{brings_itself, brings_then, brings_wid
 use Rattle.swapper_kernel.specs.Homes.{IsLayout, Brings, wanted_at}
 use Rattle.swapper_kernel.specs.Stands.{Stands, labels_of}
 use Rattle.swapper_kernel.specs.Window.{Shows, Reveals, Beside, in_map}
-use Rattle.label_calls.specs.Labels.{free_ones}
-use Rattle.label_calls.specs.Runs.{AreUncovered, HaveOnes, RelabelsRun}
+use Rattle.label_calls.specs.Clearing.{RelabelsCleared}
+use Rattle.label_calls.specs.Runs.{AreUncovered}
 use Rattle.filer_kernel.specs.Becomes.{Becomes}
 use Rattle.filer_kernel.specs.Marks.{Marks, BitsAre, marked}
 use Rattle.filer_kernel.specs.Triples.{MapIs}
@@ -145,11 +145,11 @@ pub record IsLabelledFor (layout : Layout) (id : ℕ) (m n : List Sector) : Type
 
 module _ {layout l1 : Layout} {a b c : DiskState} {s t : Slots} (is : IsLayout layout) (run : Run) (kind most : ℕ) (form : IsDataRun layout.first layout.sectors most (run.sector, run.pages)) (taken : Beside AllocationMap a s layout b t l1)
     (marked_so : (m : List Sector) (marks : Marks) → Stands a s m → BitsAre layout marks m → Becomes AllocationMap layout m (BitsAre layout (marked true run.sector run.pages marks)) b t)
-    (made : RelabelsRun run.sector run.pages (growth run.id kind run.first (sectors_of run)) b t c) (were : (d : List Sector) → b.contents ≡ Some d → HaveOnes (λ k. free_ones) d run.sector run.pages) where
+    (made : RelabelsCleared run.sector run.pages (growth run.id kind run.first (sectors_of run)) b t c) where
   -- no frame is over a label that was found free
   pub none_over : IsUnframed t 0 → (m : List Sector) → Stands b t m → AreUncovered t run.sector run.pages
   none_over none m stands k below i f in_slot at =
-      let disk = were stands.sectors stands.revealed k below in
+      let disk = made.were stands.sectors stands.revealed k below in
       let one = other_sector m stands.sectors (sym stands.merged.labels) (run.sector + k) disk.0 disk.1 in
       let home = stands.merged.frames i f in_slot in
       let label : home.label ≡ one.0.0 = ap (λ (x : Sector). x.0) (same_Some {A = Sector} (home.label, f.bytes) one.0 (sym home.keeps ∙ ap (slice_get m) at ∙ one.1)) in
@@ -169,7 +169,7 @@ module _ {layout l1 : Layout} {a b c : DiskState} {s t : Slots} (is : IsLayout l
 
     one_taken : (j k : ℕ) → j < run.pages → k ≡ run.sector + j → IsTakenFor run.id m m2 k
     one_taken j k below same =
-        let disk = were stands1.sectors stands1.revealed j below in
+        let disk = made.were stands1.sectors stands1.revealed j below in
         let one = other_sector m stands1.sectors (sym stands1.merged.labels ∙ differs.labels) (run.sector + j) disk.0 disk.1 in
         let within = slice_get_within m (run.sector + j) one.0 one.1 in
         let long = same_length m m1 differs.labels in
@@ -217,7 +217,7 @@ module _ {layout l1 : Layout} {a b c : DiskState} {s t : Slots} (is : IsLayout l
     in_tables_still k s from here own = elim (is_in (sectors_of run) k) [
       | inl (j, at) ↦
           let r = in_row run.sector run.pages j k at in
-          let disk = were stands1.sectors stands1.revealed j r.0 in
+          let disk = made.were stands1.sectors stands1.revealed j r.0 in
           let one = other_sector m stands1.sectors (sym stands1.merged.labels ∙ differs.labels) (run.sector + j) disk.0 disk.1 in
           let same : one.0 ≡ s = same_Some one.0 s (sym one.1 ∙ ap (slice_get m) (sym r.1) ∙ here) in
           let free : s.0.id ≡ 0 = ap (λ (t : Sector). t.0.id) (sym same) ∙ ap (λ (l : Label). l.id) one.2 ∙ eqb-true disk.0.0.id 0 disk.2 in

@@ -22,8 +22,8 @@ use Rattle.file_map.specs.declared.run.Run.{Run}
 use Rattle.file_map.specs.FileMap.{Triples, IsNew}
 use Rattle.file_map.specs.Entries.{Sight, Stops}
 use Rattle.swapper_kernel.specs.declared.manager.Manager.TheVariants.{AllocationMap, FileMap}
-use Rattle.swapper_kernel.specs.Goes.{Makes, no_page}
-use Rattle.swapper_kernel.specs.GoesLaws.{makes_nothing, makes_then, makes_wider}
+use Rattle.swapper_kernel.specs.Goes.{Makes, this_page}
+use Rattle.swapper_kernel.specs.GoesLaws.{makes_nothing, makes_then}
 use Rattle.swapper_kernel.specs.HaltLaws.{rose_wider}
 use Rattle.swapper_kernel.specs.Halts.{HasCause, Halts, held_or}
 use Rattle.swapper_kernel.specs.Homes.{Brings, home_at}
@@ -38,6 +38,7 @@ use Rattle.session_words.specs.Volume.{volume_page}
 use Rattle.file_manager.specs.Grounds.{IsMapsHome, IsUnframed, MakesFor, IsBrokenOrFull, LabelsOne, LabelsRun, EndsAt, HadAdded, IsFilled, StopsInForm, StopsAddition, WasClear, IsToBeFree, TakeEvidence, TakeHalts, MakeEvidence, MakeHalts}
 use Rattle.file_manager.specs.Making.{sectors_of}
 use Rattle.file_manager.specs.Taking.{TakesSectors, AddsPages, NamesNoneOf, every_page, no_page_of}
+use Rattle.file_manager.proofs.ClearedRun.{volume_makes}
 use Rattle.file_manager.proofs.Keeping.{broken_shown}
 use Rattle.file_manager.proofs.MadeRun.{IsLabelledFor, made_none, unframed_still, new_run}
 use Rattle.file_manager.proofs.RoomStops.{room_before}
@@ -48,8 +49,8 @@ pub beside_here : {layout later : Layout} {a b : DiskState} {s t : Slots} → Be
 beside_here {layout = layout} {a = a} {b = b} {s = s} {t = t} beside = subst (λ (l : Layout). Beside FileMap a s layout b t l) beside.layout beside
 
 -- labels that were written, with the frames as they were
-pub labels_there : {run : List DiskWrite} {a b : DiskState} {s t : Slots} → t ≡ s → Makes no_page run a s b s → Makes volume_page run a s b t
-labels_there {run = run} {a = a} {b = b} {s = s} same made = subst (λ (u : Slots). Makes volume_page run a s b u) (sym same) (makes_wider volume_page (λ id page none. absurd none) made)
+pub labels_there : {run : List DiskWrite} {a b : DiskState} {s t : Slots} → t ≡ s → Makes (this_page 0 0) run a s b s → Makes volume_page run a s b t
+labels_there {run = run} {a = a} {b = b} {s = s} same made = subst (λ (u : Slots). Makes volume_page run a s b u) (sym same) (volume_makes made)
 
 -- ---- Labels among writes.
 

@@ -28,13 +28,14 @@ use Rattle.swapper_kernel.specs.Homes.{IsLayout, AreNamed}
 use Rattle.swapper_kernel.specs.Stands.{Stands, labels_of}
 use Rattle.swapper_kernel.specs.Kinds.{Kind, kind_of, maps_alone, the_root, the_allocation_map, the_file_map, the_tables, a_file, unused}
 use Rattle.swapper_kernel.specs.DiffersLaws.{label_here, sector_of_label, same_length}
-use Rattle.swapper_kernel.specs.Goes.{Makes, no_page}
+use Rattle.swapper_kernel.specs.Goes.{Makes, this_page}
 use Rattle.swapper_kernel.specs.GoesLaws.{makes_then, makes_wider}
 use Rattle.swapper_kernel.specs.HaltLaws.{brings_then, brings_wider}
 use Rattle.swapper_kernel.specs.OnceLaws.{stands_once}
 use Rattle.swapper_kernel.specs.Window.{Shows, Beside}
 use Rattle.label_calls.specs.Labels.{free_ones}
-use Rattle.label_calls.specs.Runs.{AreOfFile, AreUncovered, HaveOnes, RelabelsRun, MadeSome}
+use Rattle.label_calls.specs.Clearing.{NamedCleared, RelabelsCleared}
+use Rattle.label_calls.specs.Runs.{AreOfFile, AreUncovered, HaveOnes}
 use Rattle.filer_kernel.specs.declared.cached.CachedRuns.{CachedRuns}
 use Rattle.filer_kernel.specs.Cached.{runs_of}
 use Rattle.filer_kernel.specs.Becomes.{Becomes}
@@ -54,6 +55,7 @@ use Rattle.session_words.proofs.ShownLemmas.{shown_laws}
 use Rattle.file_manager.specs.Book.{BooksUpto, AreTrue, BringsOwn, Leads}
 use Rattle.file_manager.specs.Making.{ShowsNoFree, MakesSome, sectors_of}
 use Rattle.filer_kernel.specs.MapOnce.{named_once}
+use Rattle.file_manager.proofs.ClearedRun.{volume_makes}
 use Rattle.file_manager.proofs.RowLemmas.{in_row, row_marks, row_names, row_free, growth_labels, growth_elsewhere, growth_fresh}
 use Rattle.file_manager.proofs.GrowSteps.{marks_alike, renamed, data_no_map, long_grown}
 use Rattle.file_manager.proofs.RunStages.{there_is, uncovered, shows_still, beside_map, maps_named, vam_is, marks_shown, mark_is, free_by_mark, map_is}
@@ -99,10 +101,10 @@ append_none [] = refl
 append_none (x ∷ xs) = ap (λ (l : List DiskWrite). x ∷ l) (append_none xs)
 
 -- over any contents: a run is taken, labelled, and added
-pub run_makes : {layout l1 l3 : Layout} {run : List DiskWrite} {a b c d : DiskState} {s t u : Slots} → Beside AllocationMap a s layout b t l1 → Makes no_page run b t c t → Beside FileMap c t layout d u l3 → Makes volume_page run a s d u
+pub run_makes : {layout l1 l3 : Layout} {run : List DiskWrite} {a b c d : DiskState} {s t u : Slots} → Beside AllocationMap a s layout b t l1 → Makes (this_page 0 0) run b t c t → Beside FileMap c t layout d u l3 → Makes volume_page run a s d u
 run_makes {run = run} {a = a} {d = d} {s = s} {u = u} first middle last =
     subst (λ (ws : List DiskWrite). Makes volume_page ws a s d u) (append_none run)
-    (makes_then (map_makes first) (makes_then (makes_wider volume_page (λ id page none. absurd none) middle) (map_makes last)))
+    (makes_then (map_makes first) (makes_then (volume_makes middle) (map_makes last)))
 
 module _ {tables : ℕ} (layout : Layout) (is : IsLayout layout) (kept : CachedRuns) (shapes : Shapes) (spaces : List Space) (x : List Sector) (d0 : DiskState) (s0 : Slots)
     (books : BooksUpto tables d0 s0 layout kept shapes spaces x) (hidden : ShowsNoFree spaces) (run : Run) (most : ℕ) (d1 : DiskState) (s1 : Slots) (l1 : Layout)
@@ -133,7 +135,7 @@ module _ {tables : ℕ} (layout : Layout) (is : IsLayout layout) (kept : CachedR
       let s = sector_of_label taken.memory (run.sector + k) f.label f.there.here in
       (s.0, s.1, ap is_free s.2 ∙ f.free)
 
-  module _ (kind : ℕ) (d2 : DiskState) (made : RelabelsRun run.sector run.pages (growth run.id kind run.first (sectors_of run)) d1 s1 d2) where
+  module _ (kind : ℕ) (d2 : DiskState) (made : RelabelsCleared run.sector run.pages (growth run.id kind run.first (sectors_of run)) d1 s1 d2) where
     pub labelled : (n : List Sector) × Stands d2 s1 n × (n ≡ after_writes (growth run.id kind run.first (sectors_of run)) taken.memory)
     labelled = (made.goes none_over).memory taken.memory taken.stands
 
@@ -288,19 +290,19 @@ take_all (x ∷ xs) = ap (λ (l : List DiskWrite). x ∷ l) (take_all xs)
 
 module _ {layout l1 : Layout} {a b c : DiskState} {s t u : Slots} (run : Run) (kind : ℕ) (first : Beside AllocationMap a s layout b t l1) (same : u ≡ t) where
   -- the run was labelled
-  pub labelled_makes : RelabelsRun run.sector run.pages (growth run.id kind run.first (sectors_of run)) b t c → Makes volume_page (growth run.id kind run.first (sectors_of run)) a s c u
-  labelled_makes made = subst (Makes volume_page (growth run.id kind run.first (sectors_of run)) a s c) (sym same) (makes_then (map_makes first) (makes_wider volume_page (λ id page none. absurd none) made.makes))
+  pub labelled_makes : RelabelsCleared run.sector run.pages (growth run.id kind run.first (sectors_of run)) b t c → Makes volume_page (growth run.id kind run.first (sectors_of run)) a s c u
+  labelled_makes made = subst (Makes volume_page (growth run.id kind run.first (sectors_of run)) a s c) (sym same) (makes_then (map_makes first) (volume_makes made.makes))
 
   -- and added
-  pub added_makes : {d : DiskState} {v : Slots} {l2 l3 : Layout} → RelabelsRun run.sector run.pages (growth run.id kind run.first (sectors_of run)) b t c → Beside FileMap c u l2 d v l3 → Makes volume_page (growth run.id kind run.first (sectors_of run)) a s d v
+  pub added_makes : {d : DiskState} {v : Slots} {l2 l3 : Layout} → RelabelsCleared run.sector run.pages (growth run.id kind run.first (sectors_of run)) b t c → Beside FileMap c u l2 d v l3 → Makes volume_page (growth run.id kind run.first (sectors_of run)) a s d v
   added_makes {d = d} {v = v} made last = subst (λ (ws : List DiskWrite). Makes volume_page ws a s d v) (append_none (growth run.id kind run.first (sectors_of run))) (makes_then (labelled_makes made) (map_makes last))
 
   -- the first labels
-  pub some_labelled : (some : MadeSome (growth run.id kind run.first (sectors_of run)) b t c) → Makes volume_page (take some.count (growth run.id kind run.first (sectors_of run))) a s c u
-  some_labelled some = subst (Makes volume_page (take some.count (growth run.id kind run.first (sectors_of run))) a s c) (sym same) (makes_then (map_makes first) (makes_wider volume_page (λ id page none. absurd none) some.makes))
+  pub some_labelled : (some : NamedCleared (λ k. run.sector + k) (λ k. free_ones) (growth run.id kind run.first (sectors_of run)) b t c) → Makes volume_page (take some.count (growth run.id kind run.first (sectors_of run))) a s c u
+  some_labelled some = subst (Makes volume_page (take some.count (growth run.id kind run.first (sectors_of run))) a s c) (sym same) (makes_then (map_makes first) (volume_makes some.makes))
 
   -- a stop among the labels
-  pub stopped_labels : (most : ℕ) → run.pages ≤ most → MadeSome (growth run.id kind run.first (sectors_of run)) b t c → MakesSome run.id kind run.first most a s c u
+  pub stopped_labels : (most : ℕ) → run.pages ≤ most → NamedCleared (λ k. run.sector + k) (λ k. free_ones) (growth run.id kind run.first (sectors_of run)) b t c → MakesSome run.id kind run.first most a s c u
   stopped_labels most few some = record {
     sectors = sectors_of run;
     few = let long = length-range_with_len run.sector run.pages in omega (arith, long, few);
@@ -309,7 +311,7 @@ module _ {layout l1 : Layout} {a b c : DiskState} {s t u : Slots} (run : Run) (k
   }
 
   -- a stop after them
-  pub stopped_after : {d : DiskState} {v : Slots} {l2 l3 : Layout} (most : ℕ) → run.pages ≤ most → RelabelsRun run.sector run.pages (growth run.id kind run.first (sectors_of run)) b t c → Beside FileMap c u l2 d v l3 → MakesSome run.id kind run.first most a s d v
+  pub stopped_after : {d : DiskState} {v : Slots} {l2 l3 : Layout} (most : ℕ) → run.pages ≤ most → RelabelsCleared run.sector run.pages (growth run.id kind run.first (sectors_of run)) b t c → Beside FileMap c u l2 d v l3 → MakesSome run.id kind run.first most a s d v
   stopped_after {d = d} {v = v} most few made last = record {
     sectors = sectors_of run;
     few = let long = length-range_with_len run.sector run.pages in omega (arith, long, few);

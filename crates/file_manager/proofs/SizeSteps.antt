@@ -1,5 +1,5 @@
 -- A file is found, and then it gets another size.
-use Rattle.std.proofs.Common.{◌≡◌, inl, inr, ℕ, ◌+◌, ◌-◌, ◌*◌, ◌<◌, ◌≤◌, min, List, [], Some, sym, ◌∙◌, ap, subst, arith}
+use Rattle.std.proofs.Common.{◌≡◌, inl, inr, ℕ, ◌+◌, ◌-◌, ◌*◌, ◌<◌, ◌≤◌, Bool, true, false, min, List, [], Some, sym, ◌∙◌, ap, subst, arith}
 use Rattle.std.proofs.lemmas.Option.{same_Some}
 use Rattle.std.proofs.Math.Nat.{min-le_right, mul-le-mul, mul-le-mul_right}
 use Rattle.labelled_disk.specs.declared.disk.DiskWrite.{DiskWrite}
@@ -18,6 +18,7 @@ use Rattle.session_words.specs.Volume.{volume_page}
 use Rattle.file_manager.specs.declared.volume.Volume.{Volume}
 use Rattle.file_manager.specs.Book.{Books, BringsOwn, Leads}
 use Rattle.file_manager.specs.Broken.{GrewSome}
+use Rattle.file_manager.specs.Costs.{label_cost}
 use Rattle.file_manager.specs.Finding.{shape_of_leader}
 use Rattle.file_manager.specs.Freeing.{MakesFree, MakesSomeFree}
 use Rattle.file_manager.specs.Making.{MayGrow, GrownBy, MakesAll, MakesSome}
@@ -119,15 +120,20 @@ room_shrunk old now n changed within =
 -- ---- What it costs.
 
 -- of so many pages at most
-pub grow_cost : (t0 t1 t2 p most_pages v m : ℕ) → p ≤ most_pages → t1 ≤ t0 + 29 → t2 ≤ t1 + p * (8 * v + 100) → t2 ≤ t0 + (129 + most_pages * (8 * v + 100) + m)
+pub grow_cost : (t0 t1 t2 p most_pages v m : ℕ) → p ≤ most_pages → t1 ≤ t0 + 29 → t2 ≤ t1 + p * (8 * v + 101) → t2 ≤ t0 + (129 + most_pages * (8 * v + 101) + m)
 grow_cost t0 t1 t2 p most_pages v m few first then_more =
-    let most = mul-le-mul_right (8 * v + 100) few in
+    let most = mul-le-mul_right (8 * v + 101) few in
     omega (arith, most, first, then_more)
 
-less_a_page : (v : ℕ) → 16 + 4 * v ≤ 8 * v + 100
+-- whether pages are cleared or not
+pub most_cost : (clears : Bool) (t0 t1 p v : ℕ) → t1 ≤ t0 + p * (8 * v + (98 + label_cost clears)) → t1 ≤ t0 + p * (8 * v + 101)
+most_cost true t0 t1 p v paid = paid
+most_cost false t0 t1 p v paid = let less : t1 ≤ t0 + p * (8 * v + 100) = paid in omega (arith, less)
+
+less_a_page : (v : ℕ) → 16 + 4 * v ≤ 8 * v + 101
 less_a_page v = omega arith
 
-pub shrink_cost : (t0 t1 t2 p most_pages v m : ℕ) → p ≤ most_pages → t1 ≤ t0 + 29 → t2 ≤ t1 + (p * (16 + 4 * v) + (100 + 102 * m)) → t2 ≤ t0 + (129 + most_pages * (8 * v + 100) + 102 * m)
+pub shrink_cost : (t0 t1 t2 p most_pages v m : ℕ) → p ≤ most_pages → t1 ≤ t0 + 29 → t2 ≤ t1 + (p * (16 + 4 * v) + (100 + 102 * m)) → t2 ≤ t0 + (129 + most_pages * (8 * v + 101) + 102 * m)
 shrink_cost t0 t1 t2 p most_pages v m few first then_more =
-    let most : p * (16 + 4 * v) ≤ most_pages * (8 * v + 100) = mul-le-mul few (less_a_page v) in
+    let most : p * (16 + 4 * v) ≤ most_pages * (8 * v + 101) = mul-le-mul few (less_a_page v) in
     omega (arith, most, first, then_more)

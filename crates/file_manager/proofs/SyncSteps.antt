@@ -1,5 +1,5 @@
 -- The syncs of calls in a row.
-use Rattle.std.proofs.Common.{◌≡◌, ◌⊎◌, inl, inr, ℕ, zero, suc, ◌+◌, ◌≤◌, Bool, true, List, [], ◌∷◌, ◌++◌, length, Some, sym, ◌∙◌, ap, subst, arith}
+use Rattle.std.proofs.Common.{◌≡◌, ◌≢◌, ◌⊎◌, inl, inr, ℕ, zero, suc, ◌+◌, ◌≤◌, Bool, true, false, List, [], ◌∷◌, ◌++◌, length, Some, refl, sym, ◌∙◌, ap, subst, arith}
 use Rattle.std.specs.Prelude.{slice_get, filter, not, Contains}
 use Rattle.std.proofs.lemmas.Bool.{true≢false}
 use Rattle.std.proofs.lemmas.List.{append_cancel_left, length-append}
@@ -7,6 +7,7 @@ use Rattle.std.proofs.lemmas.Option.{same_Some, none-some}
 use Rattle.labelled_disk.specs.declared.disk.DiskWrite.{DiskWrite}
 use Rattle.labelled_disk.specs.declared.disk.DiskWrite.TheVariants as write
 use Rattle.labelled_disk.specs.Calls.{RevealsSame, Rose}
+use Rattle.labelled_disk.specs.Runs.{freeing}
 use Rattle.labelled_disk.specs.declared.evidence.Evidence.{Evidence}
 use Rattle.labelled_disk.specs.declared.evidence.Halt.{Halt}
 use Rattle.labelled_disk.specs.declared.evidence.Halt.TheVariants.{Disk}
@@ -16,6 +17,7 @@ use Rattle.labelled_disk.specs.Sectors.{Sector}
 use Rattle.labelled_disk.specs.State.{DiskState, HasLabel}
 use Rattle.labelled_disk.specs.WriteRuns.{Appended}
 use Rattle.labelled_disk.proofs.WriteRunLemmas.{appended_none, appended_then}
+use Rattle.label_laws.specs.Cleared.{IsAfterClearing}
 use Rattle.frame_pool.specs.Frames.{Slots}
 use Rattle.swapper_kernel.specs.Goes.{Makes, Pages, Went, no_page, is_page_write}
 use Rattle.swapper_kernel.specs.declared.manager.Manager.{Manager}
@@ -24,19 +26,13 @@ use Rattle.swapper_kernel.specs.HaltLaws.{rose_wider}
 use Rattle.filer_kernel.specs.Becomes.{Becomes}
 use Rattle.filer_kernel.specs.Causes.{IsFaultOrMismatch}
 use Rattle.label_calls.specs.declared.page.Mark.{Mark}
+use Rattle.label_calls.specs.ClearedLaws.{labels_after_sync, pages_alone}
+pub use Rattle.label_calls.specs.ClearedLaws.{quiet_after}
 use Rattle.label_calls.specs.Labels.{MayHaveWritten, with_mark}
 use Rattle.label_calls.specs.OwnLaws.{place_in, revealed_after}
 use Rattle.label_calls.specs.Synced.{SyncedThere, SyncsAround}
 use Rattle.label_calls.specs.SyncedLaws.{WroteSynced, kept_at, kept_then, may_synced, wrote_synced}
 use Rattle.file_manager.specs.Synced.{LabelsAfterSync, LabelsAreSynced, SyncsQuietly}
-
--- where no label is among them, all are pages
-pages_alone : (writes : List DiskWrite) → filter (λ w. not (is_page_write w)) writes ≡ [] → (k : ℕ) (w : DiskWrite) → slice_get writes k ≡ Some w → is_page_write w ≡ true
-pages_alone [] none k w is = absurd (none-some w is)
-pages_alone (write.Whole i l bytes ∷ writes) none k w is = absurd (let e = ap length none in omega (arith, e))
-pages_alone (write.LabelOnly i l ∷ writes) none k w is = absurd (let e = ap length none in omega (arith, e))
-pages_alone (write.Page i wanted bytes ∷ writes) none zero w is = ap is_page_write (sym (same_Some (write.Page i wanted bytes) w is))
-pages_alone (write.Page i wanted bytes ∷ writes) none (suc k) w is = pages_alone writes none k w is
 
 -- a sync alone
 pub synced_alone : {a b : DiskState} → RevealsSame a b → Went a b → SyncedThere a b → SyncsQuietly a b
@@ -92,27 +88,76 @@ same_writes : {a b c : DiskState} (first next earlier writes : List DiskWrite) �
 same_writes first next earlier writes one two was now =
     append_cancel_left earlier (first ++ next) writes (same_Some (earlier ++ (first ++ next)) (earlier ++ writes) (sym (revealed_after (first ++ next) earlier (appended_then first next one two) was) ∙ now))
 
--- a call that wrote no label has none before a sync
-pub quiet_after : {pages : Pages} {a b : DiskState} {s t : Slots} → Makes pages [] a s b t → LabelsAfterSync a b
-quiet_after makes = record {
-  after = λ earlier writes before syncs was now had has k w is label.
-      let all = append_cancel_left earlier makes.wrote.writes writes (same_Some (earlier ++ makes.wrote.writes) (earlier ++ writes) (sym (revealed_after makes.wrote.writes earlier makes.wrote.appended was) ∙ now)) in
-      absurd (true≢false (sym (pages_alone makes.wrote.writes makes.wrote.labels k w (ap (λ (ws : List DiskWrite). slice_get ws k) all ∙ is)) ∙ label));
-}
+-- none of the labels is written with a page
+abbrev AreBare : List DiskWrite → Type 0
+AreBare [] = Unit {0}
+AreBare (write.Whole i l bytes ∷ run) = ⊥
+AreBare (write.LabelOnly i l ∷ run) = AreBare run
+AreBare (write.Page i wanted bytes ∷ run) = AreBare run
 
--- labels after a sync
-pub labels_after : {pages : Pages} {run : List DiskWrite} {a b c : DiskState} {s t : Slots} → SyncsQuietly a b → Makes pages run b s c t → LabelsAfterSync a c
-labels_after {b = b} {c = c} first next = record {
-  after = λ earlier writes before syncs was now had has k w is label.
-      let all = same_writes first.writes next.wrote.writes earlier writes first.appended next.wrote.appended was now in
+-- where the writes of labels are such, so are all writes
+bare_among : (writes : List DiskWrite) → AreBare (filter (λ w. not (is_page_write w)) writes) → AreBare writes
+bare_among [] bare = tt
+bare_among (write.Whole i l bytes ∷ writes) bare = absurd bare
+bare_among (write.LabelOnly i l ∷ writes) bare = bare_among writes bare
+bare_among (write.Page i wanted bytes ∷ writes) bare = bare_among writes bare
+
+-- pages alone are such
+pages_bare : (writes : List DiskWrite) → ((k : ℕ) (w : DiskWrite) → slice_get writes k ≡ Some w → is_page_write w ≡ true) → AreBare writes
+pages_bare [] pages = tt
+pages_bare (write.Whole i l bytes ∷ writes) pages = absurd (true≢false (sym (pages zero (write.Whole i l bytes) refl)))
+pages_bare (write.LabelOnly i l ∷ writes) pages = pages_bare writes (λ k w is. pages (suc k) w is)
+pages_bare (write.Page i wanted bytes ∷ writes) pages = pages_bare writes (λ k w is. pages (suc k) w is)
+
+-- and both of two rows that are such
+bare_then : (first next : List DiskWrite) → AreBare first → AreBare next → AreBare (first ++ next)
+bare_then [] next one more = more
+bare_then (write.Whole i l bytes ∷ first) next one more = absurd one
+bare_then (write.LabelOnly i l ∷ first) next one more = bare_then first next one more
+bare_then (write.Page i wanted bytes ∷ first) next one more = bare_then first next one more
+
+-- pages that are freed
+pub freeing_bare : (is : List ℕ) → AreBare (freeing is)
+freeing_bare [] = tt
+freeing_bare (i ∷ is) = freeing_bare is
+
+-- the write is of a label with its page
+abbrev is_whole : DiskWrite → Bool
+is_whole (write.Whole i l bytes) = true
+is_whole (write.LabelOnly i l) = false
+is_whole (write.Page i wanted bytes) = false
+
+-- no label with its page is among such writes
+none_whole : (writes : List DiskWrite) → AreBare writes → (k i : ℕ) (l : Label) (page : List ℕ) → slice_get writes k ≢ Some (write.Whole i l page)
+none_whole [] bare k i l page is = none-some (write.Whole i l page) is
+none_whole (write.Whole j m bytes ∷ writes) bare k i l page is = bare
+none_whole (write.LabelOnly j m ∷ writes) bare zero i l page is = true≢false (sym (ap is_whole (same_Some (write.LabelOnly j m) (write.Whole i l page) is)))
+none_whole (write.LabelOnly j m ∷ writes) bare (suc k) i l page is = none_whole writes bare k i l page is
+none_whole (write.Page j wanted bytes ∷ writes) bare zero i l page is = true≢false (sym (ap is_whole (same_Some (write.Page j wanted bytes) (write.Whole i l page) is)))
+none_whole (write.Page j wanted bytes ∷ writes) bare (suc k) i l page is = none_whole writes bare k i l page is
+
+-- so each label among them comes after no fresh one
+bare_clearing : (d : List Sector) (writes : List DiskWrite) (s k : ℕ) (w : DiskWrite) → AreBare writes → slice_get writes k ≡ Some w → IsAfterClearing d writes s k w
+bare_clearing d writes s k (write.Whole i l page) bare is = absurd (none_whole writes bare k i l page is)
+bare_clearing d writes s k (write.LabelOnly i l) bare is = λ j sector fresh page from to. none_whole writes bare j sector fresh page
+bare_clearing d writes s k (write.Page i wanted page) bare is = tt
+
+-- labels after a sync, none of them with a page
+pub labels_after : {pages : Pages} {run : List DiskWrite} {a b c : DiskState} {s t : Slots} → AreBare run → SyncsQuietly a b → Makes pages run b s c t → LabelsAfterSync a c
+labels_after {a = a} {b = b} {c = c} bare first next = labels_after_sync (record {
+  writes = first.writes ++ next.wrote.writes;
+  appended = appended_then first.writes next.wrote.writes first.appended next.wrote.appended;
+  kept = kept_then a b c first.kept next.went.syncs;
+  after = λ earlier before syncs was had has k w is label.
       let between = first.kept before had in
       let synced = kept_at b c (length earlier + first.place) between.0 syncs next.went.syncs between.1 has (first.synced earlier before between.0 was had between.1) in
       let within = first.within in
-      elim (place_in first.writes next.wrote.writes k w (ap (λ (ws : List DiskWrite). slice_get ws k) all ∙ is)) [
+      let all = bare_then first.writes next.wrote.writes (pages_bare first.writes first.pages) (bare_among next.wrote.writes (subst AreBare (sym next.wrote.labels) bare)) in
+      elim (place_in first.writes next.wrote.writes k w is) [
         | inl (below, there) ↦ absurd (true≢false (sym (first.pages k w there) ∙ label))
-        | inr (j, past, there) ↦ (first.place, omega (arith, within, past), synced)
+        | inr (j, past, there) ↦ (first.place, omega (arith, within, past), synced, λ d revealed. bare_clearing d (first.writes ++ next.wrote.writes) first.place k w all is)
       ];
-}
+})
 
 -- labels before a sync
 pub labels_before : {pages : Pages} {run : List DiskWrite} {a b c : DiskState} {s t : Slots} → Makes pages run a s b t → SyncsQuietly b c → LabelsAreSynced a c

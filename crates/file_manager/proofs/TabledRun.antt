@@ -27,7 +27,7 @@ use Rattle.swapper_kernel.specs.Homes.{IsLayout}
 use Rattle.swapper_kernel.specs.Stands.{Stands}
 use Rattle.swapper_kernel.specs.Window.{Beside, in_map}
 use Rattle.label_calls.specs.Labels.{free_ones, HasOne}
-use Rattle.label_calls.specs.Runs.{HaveOnes, RelabelsRun}
+use Rattle.label_calls.specs.Clearing.{RelabelsCleared}
 use Rattle.filer_kernel.specs.Becomes.{Becomes}
 use Rattle.filer_kernel.specs.Marks.{Marks, BitsAre, marked}
 use Rattle.filer_kernel.specs.PlaceLaws.{on_data}
@@ -112,19 +112,19 @@ grown_then {layout = layout} {run = run} {n = n} {o = o} is from g differs = rec
 
 module _ {layout l1 : Layout} {a b c : DiskState} {s t : Slots} (is : IsLayout layout) (run : Run) (kind most : ℕ) (form : IsDataRun layout.first layout.sectors most (run.sector, run.pages)) (taken : Beside AllocationMap a s layout b t l1)
     (marked_so : (m : List Sector) (marks : Marks) → Stands a s m → BitsAre layout marks m → Becomes AllocationMap layout m (BitsAre layout (marked true run.sector run.pages marks)) b t)
-    (made : RelabelsRun run.sector run.pages (growth run.id kind run.first (sectors_of run)) b t c) (were : (d : List Sector) → b.contents ≡ Some d → HaveOnes (λ k. free_ones) d run.sector run.pages) where
+    (made : RelabelsCleared run.sector run.pages (growth run.id kind run.first (sectors_of run)) b t c) where
   module _ (m : List Sector) (m1 : List Sector) (stands : Stands b t m1) (differs : Differs (in_map AllocationMap layout) m m1) where
     -- each was free, so it is there
     was_free : (j : ℕ) → j < run.pages → HasOne free_ones m (run.sector + j)
     was_free j below =
-        let disk = were stands.sectors stands.revealed j below in
+        let disk = made.were stands.sectors stands.revealed j below in
         let one = other_sector m stands.sectors (sym stands.merged.labels ∙ differs.labels) (run.sector + j) disk.0 disk.1 in
         (one.0, one.1, ap (λ (l : Label). l.id == 0) one.2 ∙ disk.2)
 
     inside : run.sector + run.pages ≤ length m1
     inside =
         let some = form.some in
-        let disk = were stands.sectors stands.revealed (run.pages - 1) (omega (arith, some)) in
+        let disk = made.were stands.sectors stands.revealed (run.pages - 1) (omega (arith, some)) in
         let one = other_sector m1 stands.sectors (sym stands.merged.labels) (run.sector + (run.pages - 1)) disk.0 disk.1 in
         let within = slice_get_within m1 (run.sector + (run.pages - 1)) one.0 one.1 in
         omega (arith, some, within)
@@ -142,7 +142,7 @@ module _ {layout l1 : Layout} {a b c : DiskState} {s t : Slots} (is : IsLayout l
   grown : IsUnframed s 0 → (m : List Sector) → Stands a s m → (n : List Sector) → Stands c t n → IsGrown layout run kind m n
   grown none m stands n stands_n =
       let one = taken.goes.memory m stands in
-      let two = (made.goes (none_over is run kind most form taken marked_so made were (unframed_still (maps_come taken) none) one.0 one.1)).memory one.0 one.1 in
+      let two = (made.goes (none_over is run kind most form taken marked_so made (unframed_still (maps_come taken) none) one.0 one.1)).memory one.0 one.1 in
       subst (IsGrown layout run kind m) (one_memory c t two.0 n two.1 stands_n) (once_grown m one.0 one.1 one.2 two.0 two.2)
 
 -- ---- Pages of the space tables.
@@ -203,18 +203,18 @@ module _ (layout : Layout) (run : Run) (kind : ℕ) (named : Triples) (m n : Lis
 
 module _ (o : InitialState) {x l1 l3 : Layout} {k : List Run} {a b c d : DiskState} {s t u : Slots} {named : Triples} (bytes : List ℕ) (h : KeepsTo (telling o bytes) x k a s named) (is : IsLayout x) (run : Run) (kind most : ℕ) (form : IsDataRun x.first x.sectors most (run.sector, run.pages))
     (taken : Beside AllocationMap a s x b t l1) (marked_so : (m : List Sector) (marks : Marks) → Stands a s m → BitsAre x marks m → Becomes AllocationMap x m (BitsAre x (marked true run.sector run.pages marks)) b t)
-    (made : RelabelsRun run.sector run.pages (growth run.id kind run.first (sectors_of run)) b t c) (were : (d : List Sector) → b.contents ≡ Some d → HaveOnes (λ k. free_ones) d run.sector run.pages)
+    (made : RelabelsCleared run.sector run.pages (growth run.id kind run.first (sectors_of run)) b t c)
     (beside : Beside FileMap c t x d u l3) (makes : Makes volume_page (growth run.id kind run.first (sectors_of run)) a s d u) (nothing : NamesNoneOf run.id (λ page. (run.first ≤ page) × (page < run.first + run.pages)) named) where
   -- a run of the tables: its pages are reported as zeros
   pub run_tables : run.id ≡ 3 → run.first + run.pages ≤ 96 → length bytes ≡ 512 * run.first
       → ((m : List Sector) (named : Triples) → Stands c t m → MapIs x named m → IsNew named run → Becomes FileMap x m (MapIs x (with_run named run)) d u)
       → KeepsTo (telling o (bytes ++ replicate (512 * run.pages) 0)) x k d u (with_run named run)
   run_tables tables fits long added =
-      let mid = labelled is run kind most form taken marked_so made were h.unframed h.memory h.stands in
-      let map = map_then is run kind most form taken marked_so made were h.memory mid.0 named mid.2 h.map in
+      let mid = labelled is run kind most form taken marked_so made h.unframed h.memory h.stands in
+      let map = map_then is run kind most form taken marked_so made h.memory mid.0 named mid.2 h.map in
       let more = added mid.0 named mid.1 map (new_run run named nothing) in
-      let g = grown_then is form.above (grown is run kind most form taken marked_so made were h.unframed h.memory h.stands mid.0 mid.1) more.differs in
+      let g = grown_then is form.above (grown is run kind most form taken marked_so made h.unframed h.memory h.stands mid.0 mid.1) more.differs in
       let tabled = tabled_grown x run kind named h.memory more.memory is tables form.above h.map g bytes long fits h.tabled in
-      let keeps = run_keeps (retold None h tt) is run kind most form taken marked_so made were beside makes nothing (λ client. absurd (omega (arith, tables, client))) (λ own. refl) added in
+      let keeps = run_keeps (retold None h tt) is run kind most form taken marked_so made beside makes nothing (λ client. absurd (omega (arith, tables, client))) (λ own. refl) added in
       retold (Some (bytes ++ replicate (512 * run.pages) 0)) keeps
       (subst (λ (m : List Sector). AreTabled x (with_run named run) m (bytes ++ replicate (512 * run.pages) 0)) (one_memory d u more.memory keeps.memory more.stands keeps.stands) tabled)

@@ -173,7 +173,7 @@ module _ (layout : Layout) (is_layout : IsLayout layout) (kept : CachedRuns) (sh
 
 -- The pages below this one are made: as in a growth over any contents, with bytes that are revealed, and where they may be made.
 pub record AreTablesUpTo (page : ℕ) (d0 : DiskState) (s0 : Slots) (layout : Layout) (kept : CachedRuns) (d : DiskState) (s : Slots) (later : Layout) (runs : CachedRuns) : Type 0 where
-  pub up : IsUpTo 3 0 0 96 page d0 s0 layout kept d s later runs
+  pub up : IsUpTo false 3 0 0 96 page d0 s0 layout kept d s later runs
   pub revealed : RevealedUpTo page d0 s0 layout kept d s later runs
   pub begun : (x : List Sector) (shapes : Shapes) (spaces : List Space) → MayBegin d0 s0 layout kept shapes spaces x → GrownBy 3 0 0 page d0 s0 layout d s kept
 
@@ -216,7 +216,7 @@ module _ (page : ℕ) (d0 : DiskState) (s0 : Slots) (layout : Layout) (is_layout
       → (run.pages < 96 - page → (m : List Sector) (marks : Marks) → Stands d s m → BitsAre later marks m → run.sector + run.pages < later.sectors → marks (run.sector + run.pages) ≡ true)
       → RunKeeps 3 page (96 - page) run d s later runs d2 s2 l2 r2 → RunRevealed page (96 - page) run d s later runs d2 s2 l2 r2 → AreTablesUpTo (page + run.pages) d0 s0 layout kept d2 s2 l2 r2
   tables_more run d2 s2 l2 r2 for_it makes made same_layout same_runs cost come takes longest keeps revealed = record {
-    up = up_more 3 0 0 96 page d0 s0 layout is_layout kept d s later runs h.up (omega arith) run d2 s2 l2 r2 below for_it makes made same_layout same_runs cost come takes longest keeps;
+    up = up_more 3 0 0 96 page d0 s0 layout is_layout kept d s later runs h.up (omega arith) run d2 s2 l2 r2 below for_it makes made same_layout same_runs cost come takes longest keeps (λ clear. absurd (false≢true clear));
     revealed = revealed_more kept runs r2 run for_it.same_id for_it.same_first below h.revealed revealed;
     begun = λ x shapes spaces may.
         let g = h.begun x shapes spaces may in

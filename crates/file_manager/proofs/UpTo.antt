@@ -1,5 +1,5 @@
 -- The pages of a file up to one, in a loop over runs.
-use Rattle.std.proofs.Common.{◌≡◌, ◌⊎◌, inl, inr, ℕ, zero, suc, ◌+◌, ◌-◌, ◌*◌, ◌<◌, ◌≤◌, List, [], ◌∷◌, ◌++◌, true, length, take, refl, sym, ◌∙◌, ap, subst, arith}
+use Rattle.std.proofs.Common.{◌≡◌, ◌⊎◌, inl, inr, ℕ, zero, suc, ◌+◌, ◌-◌, ◌*◌, ◌<◌, ◌≤◌, Bool, List, [], ◌∷◌, ◌++◌, true, length, take, refl, sym, ◌∙◌, ap, subst, arith}
 use Rattle.std.proofs.lemmas.Bool.{cases_eq, cases_lt}
 use Rattle.std.proofs.lemmas.List.{length-append}
 use Rattle.labelled_disk.specs.declared.disk.DiskWrite.{DiskWrite}
@@ -27,6 +27,9 @@ use Rattle.session_words.specs.Parts.{Shape, Shapes}
 use Rattle.session_words.specs.GrowLaws.{Grows}
 use Rattle.session_words.specs.Volume.{volume_page}
 use Rattle.file_manager.specs.Book.{BooksUpto, Leads, AreTrue}
+use Rattle.file_manager.specs.Costs.{label_cost}
+use Rattle.label_calls.specs.ClearedLaws.{both_after_sync, quiet_after}
+use Rattle.label_calls.specs.Synced.{LabelsAfterSync}
 use Rattle.file_manager.specs.Making.{AreUnownedUpto, ShowsNoFree, MayGrowUpto, GrownBy, MakesAll, MakesSome, IsRunFor, free_count, sectors_of}
 use Rattle.file_manager.specs.Grounds.{IsMapsHome, IsUnframed, LabelsRun, EndsAt, MakesFor, MakeHalts, RangeHalts}
 use Rattle.file_manager.proofs.GrowSteps.{growth_append, grows_none}
@@ -39,13 +42,14 @@ use Rattle.file_manager.proofs.MadeRun.{made_none, made_then, unframed_still}
 use Rattle.file_manager.proofs.MakeStops.{leaves_apart, make_halts_before}
 use Rattle.file_manager.proofs.TakingLemmas.{labels_then, taken_then}
 
-pub record IsUpTo (id kind from end page : ℕ) (d0 : DiskState) (s0 : Slots) (layout : Layout) (kept : CachedRuns) (d : DiskState) (s : Slots) (later : Layout) (runs : CachedRuns) : Type 0 where
+pub record IsUpTo (clears : Bool) (id kind from end page : ℕ) (d0 : DiskState) (s0 : Slots) (layout : Layout) (kept : CachedRuns) (d : DiskState) (s : Slots) (later : Layout) (runs : CachedRuns) : Type 0 where
   pub above : from ≤ page
   pub below : page ≤ end
   pub same_layout : later ≡ layout
   pub same_runs : runs ≡ kept
   pub size : d.sectors ≡ later.sectors
-  pub cost : d.transfers ≤ d0.transfers + (page - from) * (8 * layout.vam + 100)
+  pub cost : d.transfers ≤ d0.transfers + (page - from) * (8 * layout.vam + (98 + label_cost clears))
+  pub cleared : clears ≡ true → LabelsAfterSync d0 d
   pub makes : MakesAll id kind from (page - from) d0 s0 d s
   pub come : Brings (IsMapsHome layout) s0 s
   pub takes : MakesFor layout id (λ p. (from ≤ p) × (p < page)) d0 s0 d s
@@ -55,20 +59,20 @@ pub record IsUpTo (id kind from end page : ℕ) (d0 : DiskState) (s0 : Slots) (l
   pub keeps : KeepsUpTo id from end page d0 s0 layout kept d s later runs
 
 -- what a run costs is at most so much a page
-per_page : (p v : ℕ) → 1 ≤ p → 8 * v + 2 * p + 98 ≤ p * (8 * v + 100)
-per_page zero v some = absurd (omega (arith, some))
-per_page (suc zero) v some = omega arith
-per_page (suc (suc q)) v some = let rest = per_page (suc q) v (omega arith) in omega (arith, rest)
+per_page : (p v n : ℕ) → 1 ≤ p → 8 * v + n * p + 98 ≤ p * (8 * v + (98 + n))
+per_page zero v n some = absurd (omega (arith, some))
+per_page (suc zero) v n some = omega arith
+per_page (suc (suc q)) v n some = let rest = per_page (suc q) v n (omega arith) in omega (arith, rest)
 
-cost_then : (t0 t u a p v : ℕ) → 1 ≤ p → t ≤ t0 + a * (8 * v + 100) → u ≤ t + (8 * v + 2 * p + 98) → u ≤ t0 + (a + p) * (8 * v + 100)
-cost_then t0 t u a p v some before here = let one = per_page p v some in omega (arith, one, before, here)
+cost_then : (t0 t u a p v n : ℕ) → 1 ≤ p → t ≤ t0 + a * (8 * v + (98 + n)) → u ≤ t + (8 * v + n * p + 98) → u ≤ t0 + (a + p) * (8 * v + (98 + n))
+cost_then t0 t u a p v n some before here = let one = per_page p v n some in omega (arith, one, before, here)
 
 pub take_past : (xs ys : List DiskWrite) (j : ℕ) → take (length xs + j) (xs ++ ys) ≡ xs ++ take j ys
 take_past [] ys j = ap (λ (k : ℕ). take k ys) (let z : 0 + j ≡ j = omega arith in z)
 take_past (x ∷ xs) ys j = ap (λ (k : ℕ). take k (x ∷ (xs ++ ys))) (let z : suc (length xs) + j ≡ suc (length xs + j) = omega arith in z) ∙ ap (λ (l : List DiskWrite). x ∷ l) (take_past xs ys j)
 
 -- no page yet
-pub up_none : (id kind from end : ℕ) (d0 : DiskState) (s0 : Slots) (layout : Layout) (kept : CachedRuns) → from ≤ end → d0.sectors ≡ layout.sectors → IsUpTo id kind from end from d0 s0 layout kept d0 s0 layout kept
+pub up_none : {clears : Bool} (id kind from end : ℕ) (d0 : DiskState) (s0 : Slots) (layout : Layout) (kept : CachedRuns) → from ≤ end → d0.sectors ≡ layout.sectors → IsUpTo clears id kind from end from d0 s0 layout kept d0 s0 layout kept
 up_none id kind from end d0 s0 layout kept order size = record {
   above = omega arith;
   below = order;
@@ -76,6 +80,7 @@ up_none id kind from end d0 s0 layout kept order size = record {
   same_runs = refl;
   size = size;
   cost = omega arith;
+  cleared = λ clear. quiet_after (makes_nothing volume_page d0 s0);
   makes = record { sectors = []; long = omega arith; makes = makes_nothing volume_page d0 s0 };
   come = brings_itself (IsMapsHome layout) s0;
   takes = made_none layout id (λ p. (from ≤ p) × (p < from)) d0 s0;
@@ -93,8 +98,8 @@ up_none id kind from end d0 s0 layout kept order size = record {
   };
 }
 
-module _ (id kind from end page : ℕ) (d0 : DiskState) (s0 : Slots) (layout : Layout) (is_layout : IsLayout layout) (kept : CachedRuns) (d : DiskState) (s : Slots) (later : Layout) (runs : CachedRuns)
-    (up : IsUpTo id kind from end page d0 s0 layout kept d s later runs) (short : end < leader_page) where
+module _ {clears : Bool} (id kind from end page : ℕ) (d0 : DiskState) (s0 : Slots) (layout : Layout) (is_layout : IsLayout layout) (kept : CachedRuns) (d : DiskState) (s : Slots) (later : Layout) (runs : CachedRuns)
+    (up : IsUpTo clears id kind from end page d0 s0 layout kept d s later runs) (short : end < leader_page) where
   reached : (f : Shape) (is : List ℕ) → f.size ≡ from → length is ≡ page - from → f.size + length is ≡ page
   reached f is size long = let above = up.above in omega (arith, size, long, above)
 
@@ -102,10 +107,10 @@ module _ (id kind from end page : ℕ) (d0 : DiskState) (s0 : Slots) (layout : L
   pub up_more : (run : Run) (d2 : DiskState) (s2 : Slots) (l2 : Layout) (r2 : CachedRuns) → page < end → IsRunFor later.sectors id page (end - page) run → Makes volume_page (growth id kind page (sectors_of run)) d s d2 s2
       → ((tables : ℕ) (x : List Sector) (shapes : Shapes) (spaces : List Space) → BooksUpto tables d s later runs shapes spaces x → ShowsNoFree spaces → AreUnownedUpto tables shapes id page (end - page) → 1 ≤ free_count later x
       → Leads (Grows id kind page (sectors_of run)) (growth id kind page (sectors_of run)) d s later d2 s2 r2)
-      → l2 ≡ later → r2 ≡ runs → d2.transfers ≤ d.transfers + (8 * later.vam + 2 * run.pages + 98) → Brings (IsMapsHome later) s s2 → MakesFor later id (λ p. (page ≤ p) × (p < page + run.pages)) d s d2 s2
+      → l2 ≡ later → r2 ≡ runs → d2.transfers ≤ d.transfers + (8 * later.vam + label_cost clears * run.pages + 98) → Brings (IsMapsHome later) s s2 → MakesFor later id (λ p. (page ≤ p) × (p < page + run.pages)) d s d2 s2
       → (run.pages < end - page → (m : List Sector) (marks : Marks) → Stands d s m → BitsAre later marks m → run.sector + run.pages < later.sectors → marks (run.sector + run.pages) ≡ true)
-      → RunKeeps id page (end - page) run d s later runs d2 s2 l2 r2 → IsUpTo id kind from end (page + run.pages) d0 s0 layout kept d2 s2 l2 r2
-  up_more run d2 s2 l2 r2 below for_it makes made same_layout same_runs cost come takes longest keeps =
+      → RunKeeps id page (end - page) run d s later runs d2 s2 l2 r2 → (clears ≡ true → LabelsAfterSync d d2) → IsUpTo clears id kind from end (page + run.pages) d0 s0 layout kept d2 s2 l2 r2
+  up_more run d2 s2 l2 r2 below for_it makes made same_layout same_runs cost come takes longest keeps cleared =
       let few = for_it.few in
       let above = up.above in
       let all = up.makes in
@@ -116,9 +121,10 @@ module _ (id kind from end page : ℕ) (d0 : DiskState) (s0 : Slots) (layout : L
         same_layout = same_layout ∙ up.same_layout;
         same_runs = same_runs ∙ up.same_runs;
         cost = let sum : page - from + run.pages ≡ page + run.pages - from = omega (arith, above) in
-            subst (λ (n : ℕ). d2.transfers ≤ d0.transfers + n * (8 * layout.vam + 100)) sum
-            (cost_then d0.transfers d.transfers d2.transfers (page - from) run.pages layout.vam for_it.form.some up.cost
-            (subst (λ (l : Layout). d2.transfers ≤ d.transfers + (8 * l.vam + 2 * run.pages + 98)) up.same_layout cost));
+            subst (λ (n : ℕ). d2.transfers ≤ d0.transfers + n * (8 * layout.vam + (98 + label_cost clears))) sum
+            (cost_then d0.transfers d.transfers d2.transfers (page - from) run.pages layout.vam (label_cost clears) for_it.form.some up.cost
+            (subst (λ (l : Layout). d2.transfers ≤ d.transfers + (8 * l.vam + label_cost clears * run.pages + 98)) up.same_layout cost));
+        cleared = λ clear. both_after_sync all.makes (up.cleared clear) makes (cleared clear);
         size = makes.went.sectors ∙ up.size ∙ ap (λ (l : Layout). l.sectors) (sym same_layout);
         makes = record {
           sectors = all.sectors ++ sectors_of run;
@@ -200,13 +206,13 @@ module _ (id kind from end page : ℕ) (d0 : DiskState) (s0 : Slots) (layout : L
       (rw (up.same_layout, up.same_runs) at sound) tables y.0 _ spaces books may.hidden unowned some
 
   -- what it cost
-  pub up_cost : (d2 : DiskState) → page < end → d2.transfers ≤ d.transfers + (8 * later.vam + 2 * (end - page) + 98) → d2.transfers ≤ d0.transfers + (end - from) * (8 * layout.vam + 100)
+  pub up_cost : (d2 : DiskState) → page < end → d2.transfers ≤ d.transfers + (8 * later.vam + label_cost clears * (end - page) + 98) → d2.transfers ≤ d0.transfers + (end - from) * (8 * layout.vam + (98 + label_cost clears))
   up_cost d2 below cost =
       let above = up.above in
       let sum : page - from + (end - page) ≡ end - from = omega (arith, above, below) in
-      subst (λ (n : ℕ). d2.transfers ≤ d0.transfers + n * (8 * layout.vam + 100)) sum
-      (cost_then d0.transfers d.transfers d2.transfers (page - from) (end - page) layout.vam (omega (arith, below)) up.cost
-      (subst (λ (l : Layout). d2.transfers ≤ d.transfers + (8 * l.vam + 2 * (end - page) + 98)) up.same_layout cost))
+      subst (λ (n : ℕ). d2.transfers ≤ d0.transfers + n * (8 * layout.vam + (98 + label_cost clears))) sum
+      (cost_then d0.transfers d.transfers d2.transfers (page - from) (end - page) layout.vam (label_cost clears) (omega (arith, below)) up.cost
+      (subst (λ (l : Layout). d2.transfers ≤ d.transfers + (8 * l.vam + label_cost clears * (end - page) + 98)) up.same_layout cost))
 
   pub up_stopped : (d2 : DiskState) (s2 : Slots) → page ≤ end → MakesSome id kind page (end - page) d s d2 s2 → MakesSome id kind from (end - from) d0 s0 d2 s2
   up_stopped d2 s2 below some =
@@ -244,8 +250,8 @@ module _ (id kind from end page : ℕ) (d0 : DiskState) (s0 : Slots) (layout : L
       ]
 
 -- all pages are made
-pub up_all : (id kind from end page : ℕ) (d0 : DiskState) (s0 : Slots) (layout : Layout) (kept : CachedRuns) (d : DiskState) (s : Slots) (later : Layout) (runs : CachedRuns) → page ≡ end
-    → IsUpTo id kind from end page d0 s0 layout kept d s later runs
+pub up_all : {clears : Bool} (id kind from end page : ℕ) (d0 : DiskState) (s0 : Slots) (layout : Layout) (kept : CachedRuns) (d : DiskState) (s : Slots) (later : Layout) (runs : CachedRuns) → page ≡ end
+    → IsUpTo clears id kind from end page d0 s0 layout kept d s later runs
     → (tables : ℕ) (x : List Sector) (shapes : Shapes) (spaces : List Space) (f : Shape) → MayGrowUpto tables d0 s0 layout kept shapes spaces id f end x → f.size ≡ from → GrownBy id kind from (end - from) d0 s0 layout d s runs
 up_all id kind from end page d0 s0 layout kept d s later runs all up tables x shapes spaces f may size =
     subst (λ (r : CachedRuns). GrownBy id kind from (end - from) d0 s0 layout d s r) (sym up.same_runs)

@@ -30,3 +30,4 @@ pub mod RevealedLaws
 pub mod Synced
 pub mod Stays
 pub mod Outcomes
+pub mod Costs

@@ -49,6 +49,6 @@ pub record ResizesFile {T : Type 0} (result : Result T Halt) (id pages : ℕ) (f
       → MatchResult result
       (λ _. ShrunkBy id pages f.size memory v.disk v.slots v.layout w.disk w.slots w.runs × (new ≡ record old { used = old.used - (f.size - pages) }))
       (λ e. (e ≡ halt.Disk) × ShrunkSome id pages f.size memory v.disk v.slots w.disk w.slots)
-  pub cost : w.disk.transfers ≤ v.disk.transfers + (129 + ((pages - f.size) + (f.size - pages)) * (8 * v.layout.vam + 100) + 102 * most_records v.layout.sectors)
+  pub cost : w.disk.transfers ≤ v.disk.transfers + (129 + ((pages - f.size) + (f.size - pages)) * (8 * v.layout.vam + 101) + 102 * most_records v.layout.sectors)
   pub after_sync : f.permanent ≡ true → LabelsAfterSync v.disk w.disk
   pub synced : f.permanent ≡ true → pages < f.size → OnOk result (LabelsAreSynced v.disk w.disk)

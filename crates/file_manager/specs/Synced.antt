@@ -4,12 +4,8 @@ use Rattle.labelled_disk.specs.declared.disk.DiskWrite.{DiskWrite}
 use Rattle.labelled_disk.specs.State.{DiskState}
 use Rattle.labelled_disk.specs.WriteRuns.{Appended}
 use Rattle.swapper_kernel.specs.Goes.{KeepsSyncs, is_page_write}
-
--- Each label that was written between the two states comes after a sync that was made between them. So once one is written all
--- that was written before the first of the two is on the medium.
-pub record LabelsAfterSync (old new : DiskState) : Type 0 where
-  pub after : (earlier writes : List DiskWrite) (before syncs : List ℕ) → old.writes ≡ Some earlier → new.writes ≡ Some (earlier ++ writes) → old.syncs ≡ Some before → new.syncs ≡ Some syncs
-      → (k : ℕ) (w : DiskWrite) → slice_get writes k ≡ Some w → is_page_write w ≡ false → (s : ℕ) × (s ≤ k) × Contains syncs (length earlier + s)
+-- labels after a sync, and fresh ones over zeros that were there by then
+pub use Rattle.label_calls.specs.Synced.{LabelsAfterSync}
 
 -- each label that was written between the two states is on the medium at the second
 pub record LabelsAreSynced (old new : DiskState) : Type 0 where

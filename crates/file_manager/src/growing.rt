@@ -1,8 +1,9 @@
 //! Files that get more pages.
 ghost use Rattle.std.specs.Prelude.{◌≡◌, ◌+◌, ◌-◌, ◌*◌, ◌≤◌, ◌<◌, true, List, IfErr, min, Err, MatchResult};
 ghost use Rattle.labelled_disk.specs.declared.evidence.Halt.TheVariants as halt;
-ghost use Rattle.labelled_disk.specs.Label.{is_file_id};
+ghost use Rattle.labelled_disk.specs.Label.{is_file_id, is_permanent};
 ghost use Rattle.labelled_disk.specs.Sectors.{Sector};
+ghost use Rattle.label_calls.specs.Synced.{LabelsAfterSync};
 ghost use Rattle.file_map.specs.FileMap.{Triples};
 ghost use Rattle.flat_machine.specs.declared.space.Space.{Space};
 ghost use Rattle.session_words.specs.Parts.{Shape, Shapes};
@@ -18,15 +19,17 @@ ghost use Rattle.filer_kernel.specs.Fails.{Fails};
 use crate::Volume;
 use crate::growth::make_up;
 use filer_kernel::Filer;
-use labelled_disk::{Disk, FileId, Halt};
+use labelled_disk::{Disk, FileId, Halt, Label};
 use std::alloc::Allocator;
 
-/// Gives a file more pages, of zeros: it has so many, and is to have others up to `pages`.
+/// Gives a file with this leader more pages, of zeros: it has so many, and is to have others up to `pages`. Those of a
+/// permanent one are zeros on the medium before they get its labels, where the free label of their sector is plain:
+/// identifier 0, page 0, flags below 4, last byte 0.
 pub fn grow<D: Disk, A: Allocator>(
     filer: &mut Filer<D, A>,
     volume: &mut Volume,
     id: FileId,
-    kind: u16,
+    leader: Label,
     size: u32,
     pages: u32,
 ) -> Result<(), Halt>
@@ -40,18 +43,18 @@ pub fn grow<D: Disk, A: Allocator>(
         → f.size ≡ size
         → MatchResult result
         (λ _.
-        GrownBy id kind size (pages - size) (view_of filer.old).disk (view_of filer.old).slots
+        GrownBy id leader.kind size (pages - size) (view_of filer.old).disk (view_of filer.old).slots
         (view_of filer.old).layout (view_of filer.new).disk (view_of filer.new).slots (view_of filer.new).runs)
         (λ e.
         (e ≡ halt.Disk)
-        × GrewSome id kind size (pages - size) x (view_of filer.old).disk (view_of filer.old).slots
+        × GrewSome id leader.kind size (pages - size) x (view_of filer.old).disk (view_of filer.old).slots
         (view_of filer.new).disk (view_of filer.new).slots) }
     ensures writes { MatchResult result
         (λ _.
-        MakesAll id kind size (pages - size) (view_of filer.old).disk (view_of filer.old).slots (view_of filer.new).disk
-        (view_of filer.new).slots)
+        MakesAll id leader.kind size (pages - size) (view_of filer.old).disk (view_of filer.old).slots
+        (view_of filer.new).disk (view_of filer.new).slots)
         (λ _.
-        MakesSome id kind size (pages - size) (view_of filer.old).disk (view_of filer.old).slots
+        MakesSome id leader.kind size (pages - size) (view_of filer.old).disk (view_of filer.old).slots
         (view_of filer.new).disk (view_of filer.new).slots) }
     ensures fails { IfErr result
         (Fails
@@ -68,9 +71,11 @@ pub fn grow<D: Disk, A: Allocator>(
         (λ _. volume.new ≡ volume.old) }
     ensures stays { RunsStay (view_of filer.old) (view_of filer.new) }
     ensures cost { (view_of filer.new).disk.transfers ≤ (view_of filer.old).disk.transfers + (pages - size)
-        * (8 * (view_of filer.old).layout.vam + 100) }
+        * (8 * (view_of filer.old).layout.vam + 101) }
+    ensures cleared { is_permanent leader ≡ true → LabelsAfterSync (view_of filer.old).disk (view_of filer.new).disk }
 {
-    match make_up(filer, id, kind, size, pages) {
+    let clears = leader.marks().permanent;
+    match make_up(filer, id, leader.kind, size, pages, clears) {
         Ok(()) => (),
         Err(halt) => return Err(halt),
     }

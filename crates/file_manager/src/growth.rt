@@ -1,5 +1,5 @@
 //! Pages of a file that are made: free sectors are taken, labelled, and put into the file map.
-ghost use Rattle.std.specs.Prelude.{◌≡◌, ℕ, ◌+◌, ◌-◌, ◌*◌, ◌^◌, ◌≤◌, ◌<◌, true, false, List, length, Some, IfOk, IfErr, OnErr, Err, None, MatchResult};
+ghost use Rattle.std.specs.Prelude.{◌≡◌, ℕ, ◌+◌, ◌-◌, ◌*◌, ◌^◌, ◌≤◌, ◌<◌, true, false, List, length, IfOk, IfErr, OnErr, Err, None, MatchResult};
 ghost use Rattle.labelled_disk.specs.declared.evidence.Halt.TheVariants as halt;
 ghost use Rattle.labelled_disk.specs.Label.{is_file_id};
 ghost use Rattle.labelled_disk.specs.Runs.{growth};
@@ -11,7 +11,9 @@ ghost use Rattle.swapper_kernel.specs.declared.manager.Manager.TheVariants.{Allo
 ghost use Rattle.swapper_kernel.specs.Maps.{IsMapHome};
 ghost use Rattle.swapper_kernel.specs.Homes.{AreNamed};
 ghost use Rattle.label_calls.specs.Labels.{free_ones};
-ghost use Rattle.label_calls.specs.Runs.{AreOfFile, AreUncovered, HaveOnes, RelabelsRun, MadeSome, IsOneTaken, NamedSome};
+ghost use Rattle.label_calls.specs.Clearing.{NamedCleared, RelabelsCleared};
+ghost use Rattle.label_calls.specs.Runs.{AreOfFile, AreUncovered, HaveOnes, IsOneTaken};
+ghost use Rattle.label_calls.specs.Synced.{LabelsAfterSync};
 ghost use Rattle.filer_kernel.specs.Becomes.{Becomes};
 ghost use Rattle.filer_kernel.specs.Marks.{Marks, BitsAre, marked, IsFreeRun};
 ghost use Rattle.file_manager.specs.Grounds.{RangeHalts, TakeHalts, MakesFor};
@@ -22,6 +24,7 @@ ghost use Rattle.session_words.specs.Volume.{volume_page};
 ghost use Rattle.frame_pool.specs.Frames.{ArePages};
 ghost use Rattle.file_manager.specs.Book.{BooksUpto, Leads};
 ghost use Rattle.file_manager.specs.Broken.{GrewSome};
+ghost use Rattle.file_manager.specs.Costs.{label_cost};
 ghost use Rattle.file_manager.specs.Making.{AreUnownedUpto, ShowsNoFree, free_count, sectors_of, IsRunFor, MayGrowUpto, GrownBy, MakesAll, MakesSome};
 ghost use Rattle.file_manager.specs.Reasons.{Keeps, KeepsFrom, MayTake, InitialState, ShowsReason, telling};
 ghost use Rattle.file_manager.specs.Taking.{NamesNoneOf};
@@ -32,7 +35,7 @@ ghost use Rattle.filer_kernel.specs.Fails.{Fails};
 use alloc_map::AllocError;
 use file_map::Run;
 use filer_kernel::Filer;
-use label_calls::make_pages;
+use label_calls::{make_cleared_pages, make_pages};
 use labelled_disk::{Disk, Evidence, FileId, Halt, TABLES};
 use std::alloc::Allocator;
 
@@ -75,11 +78,14 @@ fn take_run<D: Disk, A: Allocator>(filer: &mut Filer<D, A>, most: u32) -> Result
     }
 }
 
-// Gives the sectors of a run the labels of its pages, and pages of zeros.
+// Gives the sectors of a run the labels of its pages, and pages of zeros. They may have been cleared: if they are to
+// be, those under plain free labels (identifier 0, page 0, flags below 4, last byte 0) are zeros first, and that is on
+// the medium.
 fn label_run<D: Disk, A: Allocator>(
     filer: &mut Filer<D, A>,
     run: Run,
     kind: u16,
+    clears: bool,
 ) -> Result<(), Halt>
     requires size { FitsLayout (view_of filer.old) }
     requires data { (view_of filer.old).layout.first ≤ run.sector }
@@ -88,14 +94,10 @@ fn label_run<D: Disk, A: Allocator>(
     requires of_file { AreOfFile run.id kind run.first run.pages }
     ensures writes { MatchResult result
         (λ _.
-        RelabelsRun run.sector run.pages (growth run.id kind run.first (sectors_of run)) (view_of filer.old).disk
-        (view_of filer.old).slots (view_of filer.new).disk
-        × ((d : List Sector) → (view_of filer.old).disk.contents ≡ Some d
-        → HaveOnes (λ k. free_ones) d run.sector run.pages))
+        RelabelsCleared run.sector run.pages (growth run.id kind run.first (sectors_of run)) (view_of filer.old).disk
+        (view_of filer.old).slots (view_of filer.new).disk)
         (λ _.
-        MadeSome (growth run.id kind run.first (sectors_of run)) (view_of filer.old).disk (view_of filer.old).slots
-        (view_of filer.new).disk
-        × NamedSome (λ k. run.sector + k) (λ k. free_ones) (growth run.id kind run.first (sectors_of run))
+        NamedCleared (λ k. run.sector + k) (λ k. free_ones) (growth run.id kind run.first (sectors_of run))
         (view_of filer.old).disk (view_of filer.old).slots (view_of filer.new).disk) }
     ensures sound { (m : List Sector) → HasMemory (view_of filer.old) m
         → AreUncovered (view_of filer.old).slots run.sector run.pages → HaveOnes (λ k. free_ones) m run.sector run.pages
@@ -106,12 +108,21 @@ fn label_run<D: Disk, A: Allocator>(
         (view_of filer.new).disk)
         (view_of filer.old) (view_of filer.new)) }
     ensures stays { FramesStay (view_of filer.old) (view_of filer.new) }
-    ensures cost { (view_of filer.new).disk.transfers ≤ (view_of filer.old).disk.transfers + 2 * run.pages }
+    ensures cleared { clears ≡ true → LabelsAfterSync (view_of filer.old).disk (view_of filer.new).disk }
+    ensures cost { (view_of filer.new).disk.transfers ≤ (view_of filer.old).disk.transfers
+        + label_cost clears * run.pages }
 {
     let swapper = filer.swapper_over();
-    match make_pages(swapper, run.sector, run.pages, run.id, kind, run.first) {
-        Ok(()) => Ok(()),
-        Err(halt) => Err(halt),
+    if clears {
+        match make_cleared_pages(swapper, run.sector, run.pages, run.id, kind, run.first) {
+            Ok(()) => Ok(()),
+            Err(halt) => Err(halt),
+        }
+    } else {
+        match make_pages(swapper, run.sector, run.pages, run.id, kind, run.first) {
+            Ok(()) => Ok(()),
+            Err(halt) => Err(halt),
+        }
     }
 }
 
@@ -124,13 +135,14 @@ pub(crate) fn frames_of<D: Disk, A: Allocator>(filer: &mut Filer<D, A>) -> u32
 }
 
 // Makes some of the next pages of a file or of the space tables, at least one and at most so many: a free data sector
-// is taken, and free ones after it, they get the labels of the pages, and the file map has them.
+// is taken, and free ones after it, they get the labels of the pages, cleared before or not, and the file map has them.
 pub(crate) fn make_run<D: Disk, A: Allocator>(
     filer: &mut Filer<D, A>,
     id: FileId,
     kind: u16,
     page: u32,
     most: u32,
+    clears: bool,
 ) -> Result<Run, Halt>
     requires size { FitsLayout (view_of filer.old) }
     requires pages { (1 ≤ most) × (page + most ≤ 2 ^ 32) }
@@ -182,11 +194,12 @@ pub(crate) fn make_run<D: Disk, A: Allocator>(
         MakesSome id kind page most (view_of filer.old).disk (view_of filer.old).slots (view_of filer.new).disk
         (view_of filer.new).slots) }
     ensures cost { ((view_of filer.new).disk.transfers ≤ (view_of filer.old).disk.transfers
-        + (8 * (view_of filer.old).layout.vam + 2 * most + 98))
+        + (8 * (view_of filer.old).layout.vam + label_cost clears * most + 98))
         × IfOk result
         (λ run.
         (view_of filer.new).disk.transfers ≤ (view_of filer.old).disk.transfers
-        + (8 * (view_of filer.old).layout.vam + 2 * run.pages + 98)) }
+        + (8 * (view_of filer.old).layout.vam + label_cost clears * run.pages + 98)) }
+    ensures cleared { clears ≡ true → LabelsAfterSync (view_of filer.old).disk (view_of filer.new).disk }
 {
     let (sector, pages) = match take_run(filer, most) {
         Ok(taken) => taken,
@@ -198,7 +211,7 @@ pub(crate) fn make_run<D: Disk, A: Allocator>(
         pages,
         sector,
     };
-    match label_run(filer, run, kind) {
+    match label_run(filer, run, kind, clears) {
         Ok(()) => (),
         Err(halt) => return Err(halt),
     }
@@ -210,13 +223,14 @@ pub(crate) fn make_run<D: Disk, A: Allocator>(
     Ok(run)
 }
 
-// Makes the pages of a file from one on up to another, in free data sectors.
+// Makes the pages of a file from one on up to another, in free data sectors, cleared before or not.
 pub(crate) fn make_up<D: Disk, A: Allocator>(
     filer: &mut Filer<D, A>,
     id: FileId,
     kind: u16,
     from: u32,
     end: u32,
+    clears: bool,
 ) -> Result<(), Halt>
     requires size { FitsLayout (view_of filer.old) }
     requires of_file { is_file_id id ≡ true }
@@ -254,11 +268,12 @@ pub(crate) fn make_up<D: Disk, A: Allocator>(
         (ShowsReason o (view_of filer.old).layout (view_of filer.new).disk) }
     ensures stays { BringsMaps (view_of filer.old) (view_of filer.new) }
     ensures cost { (view_of filer.new).disk.transfers ≤ (view_of filer.old).disk.transfers + (end - from)
-        * (8 * (view_of filer.old).layout.vam + 100) }
+        * (8 * (view_of filer.old).layout.vam + (98 + label_cost clears)) }
+    ensures cleared { clears ≡ true → LabelsAfterSync (view_of filer.old).disk (view_of filer.new).disk }
 {
     let mut page = from;
     while page < end {
-        match make_run(filer, id, kind, page, end - page) {
+        match make_run(filer, id, kind, page, end - page, clears) {
             Ok(run) => page += run.pages,
             Err(halt) => return Err(halt),
         }

@@ -61,11 +61,11 @@ pub fn make_file<D: Disk, A: Allocator>(
     ensures cost { (view_of filer.new).disk.transfers ≤ (view_of filer.old).disk.transfers
         + (8 * (view_of filer.old).layout.vam + 100 + pages * (8 * (view_of filer.old).layout.vam + 100)) }
 {
-    match make_run(filer, id, kind, LEADER, 1) {
+    match make_run(filer, id, kind, LEADER, 1, false) {
         Ok(_run) => (),
         Err(halt) => return Err(halt),
     }
-    match make_up(filer, id, kind, 0, pages) {
+    match make_up(filer, id, kind, 0, pages, false) {
         Ok(()) => (),
         Err(halt) => return Err(halt),
     }

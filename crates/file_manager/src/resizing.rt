@@ -57,7 +57,7 @@ pub fn set_size<D: Disk, A: Allocator>(
         (ShowsReason o (view_of filer.old).layout (view_of filer.new).disk) }
     ensures stays { KeepsRoot (view_of filer.old) (view_of filer.new) }
     ensures cost { (view_of filer.new).disk.transfers ≤ (view_of filer.old).disk.transfers
-        + (129 + 4294967295 * (8 * (view_of filer.old).layout.vam + 100) + 102 * most_records
+        + (129 + 4294967295 * (8 * (view_of filer.old).layout.vam + 101) + 102 * most_records
         (view_of filer.old).layout.sectors) }
     ensures own { RelabelsOwn id (view_of filer.old).disk (view_of filer.new).disk }
 {
@@ -69,7 +69,7 @@ pub fn set_size<D: Disk, A: Allocator>(
         Err(halt) => return Err(halt),
     };
     if file.pages <= pages {
-        match grow(filer, volume, id, file.leader.kind, file.pages, pages) {
+        match grow(filer, volume, id, file.leader, file.pages, pages) {
             Ok(()) => Ok(()),
             Err(halt) => Err(halt),
         }

@@ -63,7 +63,7 @@ fn make_pages<D: Disk, A: Allocator>(filer: &mut Filer<D, A>) -> Result<(), Halt
 {
     let mut page = 0;
     while page < TABLE_PAGES {
-        match make_run(filer, TABLES, 0, page, TABLE_PAGES - page) {
+        match make_run(filer, TABLES, 0, page, TABLE_PAGES - page, false) {
             Ok(run) => page += run.pages,
             Err(halt) => return Err(halt),
         }

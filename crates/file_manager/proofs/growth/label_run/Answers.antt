@@ -1,27 +1,25 @@
-use Rattle.std.proofs.Common.{◌∙◌, arith, rules}
-use Rattle.file_manager.proofs.Faults.{counted}
-use Rattle.file_manager.proofs.SoLemmas.{so_of_taken}
+use Rattle.file_manager.proofs.ClearedRun.{as_cleared, as_named, label_fails}
 use Rattle.file_manager.proofs.growth.label_run.Goals as goal
-use Rattle.filer_kernel.specs.View.{accepted, view_of}
+use Rattle.filer_kernel.specs.View.{accepted}
 
 pub returns-in-Err-clause-sound : goal.returns-in-Err-clause-sound
 returns-in-Err-clause-sound g c = λ m stands free ones. (rw c.swapper_over-swapper.ensures.value at c.in-Err.ensures.fails).sound m stands (free, ones)
 
+pub returns-in-Err-make_pages-clause-sound : goal.returns-in-Err-make_pages-clause-sound
+returns-in-Err-make_pages-clause-sound g c = λ m stands free ones. (rw c.swapper_over-swapper.ensures.value at c.in-Err-make_pages.ensures.fails).sound m stands (free, ones)
+
 pub returns-in-Err-clause-fails : goal.returns-in-Err-clause-fails
 returns-in-Err-clause-fails g c =
-    let fails = rw c.swapper_over-swapper.ensures.value at c.in-Err.ensures.fails in
-    let new = g.D.Disk.state c.make_pages.new.swapper.disk in
-    let size = (rw c.swapper_over-swapper.ensures.value at c.in-Err.ensures.stopped).makes.went.sectors ∙ c.requires.size in
-    record {
-      cause = fails.cause;
-      counted = counted _ _ (view_of c.args.filer.now).disk (g.D.Disk.state c.make_pages.new.swapper.disk) _ (omega arith) fails.cause;
-      evidence_seen = so_of_taken (view_of c.args.filer.now).layout new (accepted c.args.filer.now) size c.args.run.sector c.args.run.pages c.requires.data c.requires.inside (view_of c.args.filer.now).disk new c.in-Err.halt fails.evidence_seen;
-    }
-
-pub returns-in-Err-clause-writes : goal.returns-in-Err-clause-writes
-returns-in-Err-clause-writes g c =
     let some = rw c.swapper_over-swapper.ensures.value at c.in-Err.ensures.stopped in
-    (record { count = some.count; within = some.within; makes = some.makes }, some)
+    label_fails c.args.run.sector c.args.run.pages (accepted c.args.filer.now) c.requires.size some.makes.went.sectors c.requires.data c.requires.inside (rw c.swapper_over-swapper.ensures.value at c.in-Err.ensures.fails)
 
-pub returns-in-Ok-clause-writes : goal.returns-in-Ok-clause-writes
-returns-in-Ok-clause-writes g c = let made = rw c.swapper_over-swapper.ensures.value at c.in-Ok.ensures.made in (made.relabels, made.were)
+pub returns-in-Err-make_pages-clause-fails : goal.returns-in-Err-make_pages-clause-fails
+returns-in-Err-make_pages-clause-fails g c =
+    let some = rw c.swapper_over-swapper.ensures.value at c.in-Err-make_pages.ensures.stopped in
+    label_fails c.args.run.sector c.args.run.pages (accepted c.args.filer.now) c.requires.size some.makes.went.sectors c.requires.data c.requires.inside (rw c.swapper_over-swapper.ensures.value at c.in-Err-make_pages.ensures.fails)
+
+pub returns-in-Err-make_pages-clause-writes : goal.returns-in-Err-make_pages-clause-writes
+returns-in-Err-make_pages-clause-writes g c = as_named (rw c.swapper_over-swapper.ensures.value at c.in-Err-make_pages.ensures.stopped)
+
+pub returns-in-Ok-make_pages-clause-writes : goal.returns-in-Ok-make_pages-clause-writes
+returns-in-Ok-make_pages-clause-writes g c = as_cleared (rw c.swapper_over-swapper.ensures.value at c.in-Ok-make_pages.ensures.made)

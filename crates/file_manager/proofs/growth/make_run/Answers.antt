@@ -23,6 +23,9 @@ use Rattle.file_manager.specs.Grounds.{IsMapsHome}
 use Rattle.file_manager.specs.KeepLaws.{keeps_as}
 use Rattle.file_manager.proofs.MadeReasons.{label_reasons_taken, run_keeps, add_reasons, few_none}
 use Rattle.file_manager.proofs.TabledRun.{run_tables, run_within, zeros_more}
+use Rattle.file_manager.proofs.ClearedRun.{run_cleared, run_costs}
+use Rattle.file_manager.specs.Costs.{label_cost}
+use Rattle.label_calls.specs.ClearedLaws.{later_after_sync, quiet_after}
 use Rattle.file_manager.proofs.growth.make_run.Goals as goal
 use Rattle.filer_kernel.specs.View.{accepted, disk_of, swapper_of, view_of}
 
@@ -54,7 +57,7 @@ returns-in-Err-label_run-clause-made g c = λ tables x shapes spaces books hidde
 
 pub returns-in-Err-label_run-clause-writes : goal.returns-in-Err-label_run-clause-writes
 returns-in-Err-label_run-clause-writes g c =
-    stopped_labels (record { id = c.args.id; first = c.args.page; pages = c.in-Ok.taken.1; sector = c.in-Ok.taken.0 }) c.args.kind c.in-Ok.ensures.stays.kept c.in-Err-label_run.ensures.stays.frames c.args.most c.in-Ok.ensures.form.few c.in-Err-label_run.ensures.writes.0
+    stopped_labels (record { id = c.args.id; first = c.args.page; pages = c.in-Ok.taken.1; sector = c.in-Ok.taken.0 }) c.args.kind c.in-Ok.ensures.stays.kept c.in-Err-label_run.ensures.stays.frames c.args.most c.in-Ok.ensures.form.few c.in-Err-label_run.ensures.writes
 
 pub label_run-requires-clause-of_file : goal.label_run-requires-clause-of_file
 label_run-requires-clause-of_file g c = fewer_of_file c.args.id c.args.kind c.args.page c.args.most c.in-Ok.taken.1 c.in-Ok.ensures.form.few c.requires.of_file
@@ -78,7 +81,7 @@ returns-in-Err-add-clause-made g c = λ tables x shapes spaces books hidden unow
     let taken = c.in-Ok.ensures.taken x marks books.stands bits in
     let frames = c.in-Ok-label_run.ensures.stays.frames in
     let lay : (view_of c.label_run.new.filer).layout ≡ layout = c.in-Ok-label_run.ensures.stays.layout ∙ c.in-Ok.ensures.stays.kept.layout in
-    let made = c.in-Ok-label_run.ensures.writes.0 in
+    let made = c.in-Ok-label_run.ensures.writes in
     let mid = labelled layout is kept shapes spaces x _ _ books hidden run c.args.most _ _ _ c.in-Ok.ensures.stays.kept c.in-Ok.ensures.form run_free taken c.args.kind _ made in
     let few = c.in-Ok.ensures.form.few in
     (rw (frames, lay) at c.in-Err-add.ensures.sound) mid.0 books.booked.named (is_marked x) mid.1
@@ -89,7 +92,7 @@ returns-in-Err-add-clause-made g c = λ tables x shapes spaces books hidden unow
 
 pub returns-in-Err-add-clause-writes : goal.returns-in-Err-add-clause-writes
 returns-in-Err-add-clause-writes g c =
-    stopped_after (record { id = c.args.id; first = c.args.page; pages = c.in-Ok.taken.1; sector = c.in-Ok.taken.0 }) c.args.kind c.in-Ok.ensures.stays.kept c.in-Ok-label_run.ensures.stays.frames c.args.most c.in-Ok.ensures.form.few c.in-Ok-label_run.ensures.writes.0 c.in-Err-add.ensures.beside
+    stopped_after (record { id = c.args.id; first = c.args.page; pages = c.in-Ok.taken.1; sector = c.in-Ok.taken.0 }) c.args.kind c.in-Ok.ensures.stays.kept c.in-Ok-label_run.ensures.stays.frames c.args.most c.in-Ok.ensures.form.few c.in-Ok-label_run.ensures.writes c.in-Err-add.ensures.beside
 
 pub returns-clause-made : goal.returns-clause-made
 returns-clause-made g c = λ tables x shapes spaces books hidden unowned some.
@@ -104,7 +107,7 @@ returns-clause-made g c = λ tables x shapes spaces books hidden unowned some.
     let taken = c.in-Ok.ensures.taken x marks books.stands bits in
     let frames = c.in-Ok-label_run.ensures.stays.frames in
     let lay : (view_of c.label_run.new.filer).layout ≡ layout = c.in-Ok-label_run.ensures.stays.layout ∙ c.in-Ok.ensures.stays.kept.layout in
-    let made = c.in-Ok-label_run.ensures.writes.0 in
+    let made = c.in-Ok-label_run.ensures.writes in
     let mid = labelled layout is kept shapes spaces x _ _ books hidden run c.args.most _ _ _ c.in-Ok.ensures.stays.kept c.in-Ok.ensures.form run_free taken c.args.kind _ made in
     let few = c.in-Ok.ensures.form.few in
     let added = (rw (frames, lay) at c.in-Ok-add.ensures.added) mid.0 books.booked.named mid.1
@@ -132,13 +135,13 @@ returns-clause-run g c =
         few = c.in-Ok.ensures.form.few;
       },
       λ few m marks stands bits below. (c.in-Ok.ensures.free m marks stands bits).longest few below,
-      rw c.frames_of.ensures.same (made_run is run c.args.kind c.args.most c.in-Ok.ensures.form kept c.in-Ok.ensures.taken c.in-Ok-label_run.ensures.writes.0 c.in-Ok-label_run.ensures.writes.1 beside added),
+      rw c.frames_of.ensures.same (made_run is run c.args.kind c.args.most c.in-Ok.ensures.form kept c.in-Ok.ensures.taken c.in-Ok-label_run.ensures.writes beside added),
     )
 
 pub returns-clause-writes : goal.returns-clause-writes
 returns-clause-writes g c =
     rw c.frames_of.ensures.same
-    (added_makes (record { id = c.args.id; first = c.args.page; pages = c.in-Ok.taken.1; sector = c.in-Ok.taken.0 }) c.args.kind c.in-Ok.ensures.stays.kept c.in-Ok-label_run.ensures.stays.frames c.in-Ok-label_run.ensures.writes.0 c.in-Ok-add.ensures.beside)
+    (added_makes (record { id = c.args.id; first = c.args.page; pages = c.in-Ok.taken.1; sector = c.in-Ok.taken.0 }) c.args.kind c.in-Ok.ensures.stays.kept c.in-Ok-label_run.ensures.stays.frames c.in-Ok-label_run.ensures.writes c.in-Ok-add.ensures.beside)
 
 pub returns-in-Err-clause-broken : goal.returns-in-Err-clause-broken
 returns-in-Err-clause-broken g c = λ tables x shapes spaces books hidden unowned some. none_grew c.in-Err.ensures.stays.kept
@@ -155,7 +158,7 @@ returns-in-Err-label_run-clause-broken g c = λ tables x shapes spaces books hid
     let run_free = c.in-Ok.ensures.free x marks books.stands bits in
     let taken = c.in-Ok.ensures.taken x marks books.stands bits in
     labels_grew run c.args.kind c.in-Ok.ensures.stays.kept c.in-Err-label_run.ensures.stays.frames c.in-Ok.ensures.form.few
-    (row_was_free layout is kept shapes spaces x _ _ books hidden run c.args.most _ _ _ c.in-Ok.ensures.stays.kept c.in-Ok.ensures.form run_free taken c.args.kind) c.in-Err-label_run.ensures.writes.0
+    (row_was_free layout is kept shapes spaces x _ _ books hidden run c.args.most _ _ _ c.in-Ok.ensures.stays.kept c.in-Ok.ensures.form run_free taken c.args.kind) c.in-Err-label_run.ensures.writes
 
 pub returns-in-Err-add-clause-broken : goal.returns-in-Err-add-clause-broken
 returns-in-Err-add-clause-broken g c = λ tables x shapes spaces books hidden unowned some.
@@ -169,7 +172,7 @@ returns-in-Err-add-clause-broken g c = λ tables x shapes spaces books hidden un
     let run_free = c.in-Ok.ensures.free x marks books.stands bits in
     let taken = c.in-Ok.ensures.taken x marks books.stands bits in
     all_grew run c.args.kind c.in-Ok.ensures.stays.kept c.in-Ok-label_run.ensures.stays.frames c.in-Ok.ensures.form.few
-    (row_was_free layout is kept shapes spaces x _ _ books hidden run c.args.most _ _ _ c.in-Ok.ensures.stays.kept c.in-Ok.ensures.form run_free taken c.args.kind) c.in-Ok-label_run.ensures.writes.0 c.in-Err-add.ensures.beside
+    (row_was_free layout is kept shapes spaces x _ _ books hidden run c.args.most _ _ _ c.in-Ok.ensures.stays.kept c.in-Ok.ensures.form run_free taken c.args.kind) c.in-Ok-label_run.ensures.writes c.in-Err-add.ensures.beside
 
 pub returns-in-Err-label_run-clause-fails : goal.returns-in-Err-label_run-clause-fails
 returns-in-Err-label_run-clause-fails g c = record {
@@ -192,13 +195,12 @@ returns-in-Err-add-clause-fails g c =
     let fewer = form.few in
     let lay : (view_of c.label_run.new.filer).layout ≡ layout = c.in-Ok-label_run.ensures.stays.layout ∙ kept.layout in
     let frames = c.in-Ok-label_run.ensures.stays.frames in
-    let made = c.in-Ok-label_run.ensures.writes.0 in
-    let were = c.in-Ok-label_run.ensures.writes.1 in
+    let made = c.in-Ok-label_run.ensures.writes in
     let beside = rw (frames, lay) at c.add.ensures.beside in
     let first = c.in-Ok.ensures.stays.kept.goes.makes.went.faults in
-    let second = c.in-Ok-label_run.ensures.writes.0.makes.went.faults in
+    let second = c.in-Ok-label_run.ensures.writes.makes.went.faults in
     record {
-      cause = added_halts run c.args.kind pages pages form.some (λ p own. let from = own.0 in let below = own.1 in (from, omega (arith, below, fewer))) (maps_come kept) (makes_then (map_makes kept) (labels_there refl made.makes)) (added_makes run c.args.kind kept refl made beside) (labelled_so is run c.args.kind c.args.most form kept c.in-Ok.ensures.taken made were) (bytes_revealed is run c.args.kind c.args.most form kept c.in-Ok.ensures.taken made were) beside c.in-Err-add.halt (rw (frames, lay) at c.in-Err-add.ensures.cause) (rw (frames, lay) at c.in-Err-add.ensures.right);
+      cause = added_halts run c.args.kind pages pages form.some (λ p own. let from = own.0 in let below = own.1 in (from, omega (arith, below, fewer))) (maps_come kept) (makes_then (map_makes kept) (labels_there refl made.makes)) (added_makes run c.args.kind kept refl made beside) (labelled_so is run c.args.kind c.args.most form kept c.in-Ok.ensures.taken made) (bytes_revealed is run c.args.kind c.args.most form kept c.in-Ok.ensures.taken made) beside c.in-Err-add.halt (rw (frames, lay) at c.in-Err-add.ensures.cause) (rw (frames, lay) at c.in-Err-add.ensures.right);
       counted = counted _ _ (view_of c.label_run.new.filer).disk (view_of c.add.new.self).disk _ (omega (arith, first, second)) c.in-Err-add.ensures.cause;
       evidence_seen = so_of_add (fits (swapper_of c.label_run.new.filer) (search rules)) c.add.ensures.beside.goes.makes c.in-Err-add.halt c.in-Err-add.ensures.cause;
     }
@@ -251,9 +253,9 @@ returns-in-Err-label_run-clause-accounts g c = λ o named h nothing.
     let kept = c.in-Ok.ensures.stays.kept in
     let form = c.in-Ok.ensures.form in
     let run = row_run c.args.id c.args.page c.in-Ok.taken.0 c.in-Ok.taken.1 in
-    let some = c.in-Err-label_run.ensures.writes.1 in
+    let some = c.in-Err-label_run.ensures.writes in
     label_reasons_taken h kept run c.args.kind some form.above form.inside (λ m marks stands bits. (c.in-Ok.ensures.free m marks stands bits).free)
-    (some_labelled run c.args.kind kept c.in-Err-label_run.ensures.stays.frames (record { count = some.count; within = some.within; makes = some.makes }))
+    (some_labelled run c.args.kind kept c.in-Err-label_run.ensures.stays.frames some)
     c.in-Err-label_run.halt c.in-Err-label_run.ensures.fails.cause
 
 pub returns-in-Err-add-clause-accounts : goal.returns-in-Err-add-clause-accounts
@@ -265,9 +267,9 @@ returns-in-Err-add-clause-accounts g c = λ o named h nothing.
     let form = c.in-Ok.ensures.form in
     let lay : (view_of c.label_run.new.filer).layout ≡ layout = c.in-Ok-label_run.ensures.stays.layout ∙ kept.layout in
     let frames = c.in-Ok-label_run.ensures.stays.frames in
-    let made = c.in-Ok-label_run.ensures.writes.0 in
+    let made = c.in-Ok-label_run.ensures.writes in
     let beside = rw (frames, lay) at c.add.ensures.beside in
-    add_reasons h is run c.args.kind c.args.most form kept c.in-Ok.ensures.taken made c.in-Ok-label_run.ensures.writes.1 beside (added_makes run c.args.kind kept refl made beside) (few_none run named c.args.most form.few nothing)
+    add_reasons h is run c.args.kind c.args.most form kept c.in-Ok.ensures.taken made beside (added_makes run c.args.kind kept refl made beside) (few_none run named c.args.most form.few nothing)
     c.in-Err-add.halt (rw (frames, lay) at c.in-Err-add.ensures.cause) (rw (frames, lay) at c.in-Err-add.ensures.right)
 
 pub returns-clause-accounts : goal.returns-clause-accounts
@@ -279,11 +281,11 @@ returns-clause-accounts g c = λ o named h nothing may untold.
     let form = c.in-Ok.ensures.form in
     let lay : (view_of c.label_run.new.filer).layout ≡ layout = c.in-Ok-label_run.ensures.stays.layout ∙ kept.layout in
     let frames = c.in-Ok-label_run.ensures.stays.frames in
-    let made = c.in-Ok-label_run.ensures.writes.0 in
+    let made = c.in-Ok-label_run.ensures.writes in
     let beside = rw (frames, lay) at c.in-Ok-add.ensures.beside in
     let added = rw (frames, lay) at c.in-Ok-add.ensures.added in
     rw c.frames_of.ensures.same (keeps_as (c.in-Ok-add.ensures.beside.layout ∙ lay) (c.in-Ok-add.ensures.runs ∙ c.in-Ok-label_run.ensures.stays.runs ∙ c.in-Ok.ensures.stays.runs)
-    (run_keeps h is run c.args.kind c.args.most form kept c.in-Ok.ensures.taken made c.in-Ok-label_run.ensures.writes.1 beside (added_makes run c.args.kind kept refl made beside) (few_none run named c.args.most form.few nothing) may untold added))
+    (run_keeps h is run c.args.kind c.args.most form kept c.in-Ok.ensures.taken made beside (added_makes run c.args.kind kept refl made beside) (few_none run named c.args.most form.few nothing) may untold added))
 
 pub returns-clause-tables : goal.returns-clause-tables
 returns-clause-tables g c = λ o named b tables fits long h nothing.
@@ -294,7 +296,7 @@ returns-clause-tables g c = λ o named b tables fits long h nothing.
     let form = c.in-Ok.ensures.form in
     let lay : (view_of c.label_run.new.filer).layout ≡ layout = c.in-Ok-label_run.ensures.stays.layout ∙ kept.layout in
     let frames = c.in-Ok-label_run.ensures.stays.frames in
-    let made = c.in-Ok-label_run.ensures.writes.0 in
+    let made = c.in-Ok-label_run.ensures.writes in
     let beside = rw (frames, lay) at c.in-Ok-add.ensures.beside in
     let added = rw (frames, lay) at c.in-Ok-add.ensures.added in
     let all = b ++ replicate (512 * run.pages) 0 in
@@ -302,8 +304,38 @@ returns-clause-tables g c = λ o named b tables fits long h nothing.
       all,
       (
         keeps_as (c.in-Ok-add.ensures.beside.layout ∙ lay) (c.in-Ok-add.ensures.runs ∙ c.in-Ok-label_run.ensures.stays.runs ∙ c.in-Ok.ensures.stays.runs)
-            (run_tables o b h is run c.args.kind c.args.most form kept c.in-Ok.ensures.taken made c.in-Ok-label_run.ensures.writes.1 beside (added_makes run c.args.kind kept refl made beside) (few_none run named c.args.most form.few nothing)
+            (run_tables o b h is run c.args.kind c.args.most form kept c.in-Ok.ensures.taken made beside (added_makes run c.args.kind kept refl made beside) (few_none run named c.args.most form.few nothing)
             tables (run_within c.args.page run.pages c.args.most form.few fits) long added),
         zeros_more b c.args.page run.pages long,
       ),
     )
+
+-- ---- What is on the medium, and what it cost.
+
+pub returns-in-Err-clause-cleared : goal.returns-in-Err-clause-cleared
+returns-in-Err-clause-cleared g c = λ clear. quiet_after (map_makes c.in-Err.ensures.stays.kept)
+
+pub returns-in-Err-label_run-clause-cleared : goal.returns-in-Err-label_run-clause-cleared
+returns-in-Err-label_run-clause-cleared g c = λ clear. later_after_sync (map_makes c.in-Ok.ensures.stays.kept) c.in-Err-label_run.ensures.writes.makes (c.label_run.ensures.cleared clear)
+
+pub returns-in-Err-add-clause-cleared : goal.returns-in-Err-add-clause-cleared
+returns-in-Err-add-clause-cleared g c = λ clear. run_cleared (map_makes c.in-Ok.ensures.stays.kept) c.in-Ok-label_run.ensures.writes.makes (c.label_run.ensures.cleared clear) (map_makes c.in-Err-add.ensures.beside)
+
+pub returns-clause-cleared : goal.returns-clause-cleared
+returns-clause-cleared g c = λ clear. rw c.frames_of.ensures.same (run_cleared (map_makes c.in-Ok.ensures.stays.kept) c.in-Ok-label_run.ensures.writes.makes (c.label_run.ensures.cleared clear) (map_makes c.in-Ok-add.ensures.beside))
+
+pub returns-in-Err-label_run-clause-cost : goal.returns-in-Err-label_run-clause-cost
+returns-in-Err-label_run-clause-cost g c =
+    let t = (view_of c.label_run.new.filer).disk.transfers in
+    let most = run_costs (view_of c.args.filer.now).disk.transfers (view_of c.take_run.new.filer).disk.transfers t t (label_cost c.args.clears) c.in-Ok.taken.1 c.args.most (view_of c.args.filer.now).layout.vam c.in-Ok.ensures.form.few c.take_run.ensures.cost c.label_run.ensures.cost (omega arith) in
+    (most.0, tt)
+
+pub returns-in-Err-add-clause-cost : goal.returns-in-Err-add-clause-cost
+returns-in-Err-add-clause-cost g c =
+    let most = run_costs (view_of c.args.filer.now).disk.transfers (view_of c.take_run.new.filer).disk.transfers (view_of c.label_run.new.filer).disk.transfers (view_of c.add.new.self).disk.transfers (label_cost c.args.clears) c.in-Ok.taken.1 c.args.most (view_of c.args.filer.now).layout.vam c.in-Ok.ensures.form.few c.take_run.ensures.cost c.label_run.ensures.cost c.add.ensures.cost in
+    (most.0, tt)
+
+pub returns-clause-cost : goal.returns-clause-cost
+returns-clause-cost g c =
+    rw c.frames_of.ensures.same
+    (run_costs (view_of c.args.filer.now).disk.transfers (view_of c.take_run.new.filer).disk.transfers (view_of c.label_run.new.filer).disk.transfers (view_of c.add.new.self).disk.transfers (label_cost c.args.clears) c.in-Ok.taken.1 c.args.most (view_of c.args.filer.now).layout.vam c.in-Ok.ensures.form.few c.take_run.ensures.cost c.label_run.ensures.cost c.add.ensures.cost)

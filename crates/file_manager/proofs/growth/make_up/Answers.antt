@@ -5,6 +5,7 @@ use Rattle.file_manager.proofs.GrowBroken.{up_broken}
 use Rattle.file_manager.proofs.Faults.{counted_then}
 use Rattle.swapper_kernel.specs.HaltLaws.{brings_then}
 use Rattle.file_manager.proofs.KeptUpTo.{tables_still}
+use Rattle.label_calls.specs.ClearedLaws.{both_after_sync}
 use Rattle.file_manager.proofs.growth.make_up.Goals as goal
 use Rattle.filer_kernel.specs.View.{accepted, view_of}
 
@@ -14,7 +15,7 @@ loop-page-init g c = up_none _ _ _ _ _ _ _ _ c.requires.order c.requires.size
 pub loop-page-preserved : goal.loop-page-preserved
 loop-page-preserved g c =
     let below : c.loop-page.page < c.args.end = search rules in
-    up_more _ _ _ _ c.loop-page.page _ _ _ (accepted c.args.filer.now) _ _ _ _ _ c.loop-page.invariant c.requires.numbers c.in-Ok.run' _ _ _ _ below c.in-Ok.ensures.run.0 c.in-Ok.ensures.writes c.in-Ok.ensures.made c.in-Ok.ensures.stays.layout c.in-Ok.ensures.stays.runs c.in-Ok.ensures.cost.1 c.make_run.ensures.stays.come c.in-Ok.ensures.run.2 c.in-Ok.ensures.run.1 (λ o named h may untold none. c.in-Ok.ensures.accounts o named h none may untold)
+    up_more _ _ _ _ c.loop-page.page _ _ _ (accepted c.args.filer.now) _ _ _ _ _ c.loop-page.invariant c.requires.numbers c.in-Ok.run' _ _ _ _ below c.in-Ok.ensures.run.0 c.in-Ok.ensures.writes c.in-Ok.ensures.made c.in-Ok.ensures.stays.layout c.in-Ok.ensures.stays.runs c.in-Ok.ensures.cost.1 c.make_run.ensures.stays.come c.in-Ok.ensures.run.2 c.in-Ok.ensures.run.1 (λ o named h may untold none. c.in-Ok.ensures.accounts o named h none may untold) c.make_run.ensures.cleared
 
 pub returns-in-Err-clause-made : goal.returns-in-Err-clause-made
 returns-in-Err-clause-made g c =
@@ -67,3 +68,9 @@ returns-in-Err-clause-accounts g c = λ o named h may none.
     let below : c.loop-page.page < c.args.end = search rules in
     let now = c.loop-page.invariant.keeps o named h may (file_untold o c.args.id c.requires.of_file) none in
     rw c.loop-page.invariant.same_layout at (c.in-Err.ensures.accounts o now.0 now.1 (λ p sector own. let last = own.1 in now.2 p sector (own.0, omega (arith, last, below))))
+
+pub returns-clause-cleared : goal.returns-clause-cleared
+returns-clause-cleared g c = c.loop-page.invariant.cleared
+
+pub returns-in-Err-clause-cleared : goal.returns-in-Err-clause-cleared
+returns-in-Err-clause-cleared g c = λ clear. both_after_sync c.loop-page.invariant.makes.makes (c.loop-page.invariant.cleared clear) c.in-Err.ensures.writes.makes (c.make_run.ensures.cleared clear)

@@ -6,7 +6,7 @@ use Rattle.filer_kernel.specs.View.{view_of}
 -- the pages up to this one are made
 abbrev pub invariant-loop-page : goal.invariant-loop-page
 invariant-loop-page g l =
-    IsUpTo l.fn.id l.fn.kind l.fn.from l.fn.end l.page (view_of l.fn.filer).disk (view_of l.fn.filer).slots (view_of l.fn.filer).layout l.fn.filer.runs
+    IsUpTo l.fn.clears l.fn.id l.fn.kind l.fn.from l.fn.end l.page (view_of l.fn.filer).disk (view_of l.fn.filer).slots (view_of l.fn.filer).layout l.fn.filer.runs
     (view_of l.filer).disk (view_of l.filer).slots (view_of l.filer).layout l.filer.runs
 
 abbrev pub decreases-loop-page : goal.decreases-loop-page

@@ -26,7 +26,8 @@ use Rattle.file_manager.specs.KeepLaws.{named_takes}
 use Rattle.file_manager.specs.Reasons.{ShowsReason}
 use Rattle.file_manager.specs.ReasonLaws.{missing_reason}
 use Rattle.file_manager.proofs.KeepCut.{none_above}
-use Rattle.file_manager.proofs.SyncSteps.{labels_after, quiet_after, quiet_before}
+use Rattle.label_calls.specs.ClearedLaws.{later_after_sync, quiet_after}
+use Rattle.file_manager.proofs.SyncSteps.{freeing_bare, labels_after, quiet_before}
 use Rattle.file_manager.specs.Synced.{SyncsQuietly}
 use Rattle.labelled_disk.specs.Label.{is_permanent}
 use Rattle.file_manager.proofs.resizing.set_size.Goals as goal
@@ -61,7 +62,6 @@ returns-in-Ok-clause-resized g c =
     let same : f ≡ shape_of_leader c.in-Ok-Some.file.leader c.in-Ok-Some.file.pages = shape_is shapes c.args.id f c.in-Ok-Some.file.leader c.in-Ok-Some.file.pages found led.1 in
     let size = ap (λ (w : Shape). w.size) same in
     let kept = ap (λ (w : Shape). w.permanent) same in
-    let synced = subst (λ (o : Option FoundFile). IfSome o (λ file. is_permanent file.leader ≡ true → SyncsQuietly (view_of c.args.filer.now).disk (view_of c.find_file.new.filer).disk)) c.in-Ok-Some.field-0-is (c.in-Ok-Some.ensures.synced refl) in
     let few : c.args.pages - c.in-Ok-Some.file.pages ≤ ((c.args.pages - f.size) + (f.size - c.args.pages)) = omega (arith, size) in
     record {
       grown = λ may fewer.
@@ -69,7 +69,7 @@ returns-in-Ok-clause-resized g c =
           (grown_revealed books asked.1 c.find_file.ensures.stays.makes c.find_file.ensures.stays.brings f c.in-Ok-Some.file.leader c.in-Ok-Some.file.pages same c.args.id c.args.pages grew, rw size c.in-Ok.ensures.volume);
       shrunk = λ may. let fewer = may.fewer in absurd (omega (arith, here, size, fewer));
       cost = grow_cost (view_of c.args.filer.now).disk.transfers (view_of c.find_file.new.filer).disk.transfers (view_of c.grow.new.filer).disk.transfers (c.args.pages - c.in-Ok-Some.file.pages) ((c.args.pages - f.size) + (f.size - c.args.pages)) (view_of c.args.filer.now).layout.vam (102 * most_records (view_of c.args.filer.now).layout.sectors) few c.find_file.ensures.cost (rw c.find_file.ensures.stays.layout at c.grow.ensures.cost);
-      after_sync = λ permanent. labels_after (synced (sym kept ∙ permanent)) c.in-Ok.ensures.writes.makes;
+      after_sync = λ permanent. later_after_sync c.find_file.ensures.stays.makes c.in-Ok.ensures.writes.makes (c.in-Ok.ensures.cleared (sym kept ∙ permanent));
       synced = λ permanent less. absurd (omega (arith, here, less, size));
     }
 
@@ -82,7 +82,6 @@ returns-in-Err-grow-clause-resized g c =
     let same : f ≡ shape_of_leader c.in-Ok-Some.file.leader c.in-Ok-Some.file.pages = shape_is shapes c.args.id f c.in-Ok-Some.file.leader c.in-Ok-Some.file.pages found led.1 in
     let size = ap (λ (w : Shape). w.size) same in
     let kept = ap (λ (w : Shape). w.permanent) same in
-    let synced = subst (λ (o : Option FoundFile). IfSome o (λ file. is_permanent file.leader ≡ true → SyncsQuietly (view_of c.args.filer.now).disk (view_of c.find_file.new.filer).disk)) c.in-Ok-Some.field-0-is (c.in-Ok-Some.ensures.synced refl) in
     let few : c.args.pages - c.in-Ok-Some.file.pages ≤ ((c.args.pages - f.size) + (f.size - c.args.pages)) = omega (arith, size) in
     record {
       grown = λ may fewer.
@@ -90,7 +89,7 @@ returns-in-Err-grow-clause-resized g c =
           (grew.0, grew_revealed c.find_file.ensures.stays.makes f c.in-Ok-Some.file.leader c.in-Ok-Some.file.pages same c.args.id c.args.pages grew.1);
       shrunk = λ may. let fewer = may.fewer in absurd (omega (arith, here, size, fewer));
       cost = grow_cost (view_of c.args.filer.now).disk.transfers (view_of c.find_file.new.filer).disk.transfers (view_of c.grow.new.filer).disk.transfers (c.args.pages - c.in-Ok-Some.file.pages) ((c.args.pages - f.size) + (f.size - c.args.pages)) (view_of c.args.filer.now).layout.vam (102 * most_records (view_of c.args.filer.now).layout.sectors) few c.find_file.ensures.cost (rw c.find_file.ensures.stays.layout at c.grow.ensures.cost);
-      after_sync = λ permanent. labels_after (synced (sym kept ∙ permanent)) c.in-Err-grow.ensures.writes.makes;
+      after_sync = λ permanent. later_after_sync c.find_file.ensures.stays.makes c.in-Err-grow.ensures.writes.makes (c.in-Err-grow.ensures.cleared (sym kept ∙ permanent));
       synced = λ permanent less. tt;
     }
 
@@ -111,7 +110,7 @@ returns-in-Ok-shrink-clause-resized g c =
           let less = (rw c.find_file.ensures.stays.layout at c.in-Ok-shrink.ensures.shrunk) x shapes spaces f (may_shrink_now books asked.1 may) size led.0 in
           (shrunk_revealed books asked.1 c.find_file.ensures.stays.makes c.find_file.ensures.stays.brings f c.in-Ok-Some.file.leader c.in-Ok-Some.file.pages same c.args.id c.args.pages less, rw size c.in-Ok-shrink.ensures.volume);
       cost = shrink_cost (view_of c.args.filer.now).disk.transfers (view_of c.find_file.new.filer).disk.transfers (view_of c.shrink.new.filer).disk.transfers (c.in-Ok-Some.file.pages - c.args.pages) ((c.args.pages - f.size) + (f.size - c.args.pages)) (view_of c.args.filer.now).layout.vam (most_records (view_of c.args.filer.now).layout.sectors) few c.find_file.ensures.cost (rw c.find_file.ensures.stays.layout at c.shrink.ensures.cost);
-      after_sync = λ permanent. labels_after (synced (sym kept ∙ permanent)) c.in-Ok-shrink.ensures.writes.makes;
+      after_sync = λ permanent. let made = c.in-Ok-shrink.ensures.writes in labels_after (freeing_bare made.sectors) (synced (sym kept ∙ permanent)) made.makes;
       synced = λ permanent less. quiet_before c.find_file.ensures.stays.makes c.in-Ok-shrink.ensures.writes.makes (c.in-Ok-shrink.ensures.labels.1 (sym kept ∙ permanent));
     }
 
@@ -132,7 +131,7 @@ returns-in-Err-shrink-clause-resized g c =
           let less = (rw c.find_file.ensures.stays.layout at c.in-Err-shrink.ensures.shrunk) x shapes spaces f (may_shrink_now books asked.1 may) size led.0 in
           (less.0, some_revealed c.find_file.ensures.stays.makes f c.in-Ok-Some.file.leader c.in-Ok-Some.file.pages same c.args.id c.args.pages less.1);
       cost = shrink_cost (view_of c.args.filer.now).disk.transfers (view_of c.find_file.new.filer).disk.transfers (view_of c.shrink.new.filer).disk.transfers (c.in-Ok-Some.file.pages - c.args.pages) ((c.args.pages - f.size) + (f.size - c.args.pages)) (view_of c.args.filer.now).layout.vam (most_records (view_of c.args.filer.now).layout.sectors) few c.find_file.ensures.cost (rw c.find_file.ensures.stays.layout at c.shrink.ensures.cost);
-      after_sync = λ permanent. labels_after (synced (sym kept ∙ permanent)) c.in-Err-shrink.ensures.writes.makes;
+      after_sync = λ permanent. let made = c.in-Err-shrink.ensures.writes in labels_after (freeing_bare made.sectors) (synced (sym kept ∙ permanent)) made.makes;
       synced = λ permanent less. tt;
     }
 
