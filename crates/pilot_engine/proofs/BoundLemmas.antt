@@ -32,8 +32,8 @@ pub linear : (n c : ℕ) → 256 ≤ n → c ≤ 16384 * n + 2 ^ 30 → c ≤ ot
 linear n c least few = let more = many n least in omega (arith, few, more)
 
 -- what is spent page by page
-pub page_by_page : (n p w : ℕ) → p ≤ n → w ≤ 2156 → p * w ≤ 2156 * n
-page_by_page n p w few cheap = let most : p * w ≤ n * 2156 = mul-le-mul few cheap in omega (arith, most)
+pub page_by_page : (n p w : ℕ) → p ≤ n → w ≤ 2157 → p * w ≤ 2157 * n
+page_by_page n p w few cheap = let most : p * w ≤ n * 2157 = mul-le-mul few cheap in omega (arith, most)
 
 -- little is spent, and as much is left for the space tables
 pub inside : (t0 t1 n c : ℕ) → c ≤ 1000 → t1 ≤ t0 + c → t1 + 2 ^ 29 ≤ t0 + other_bound n
@@ -101,7 +101,7 @@ create_bounded layout is t0 t1 pages few paid =
     let bits = s.bits in
     let room = s.room in
     let records = s.records in
-    let each : (pages + 1) * (8 * layout.vam + 100) ≤ 2156 * layout.sectors = page_by_page layout.sectors (pages + 1) (8 * layout.vam + 100) (omega (arith, few, room)) (omega (arith, bits)) in
+    let each : (pages + 1) * (8 * layout.vam + 100) ≤ 2157 * layout.sectors = page_by_page layout.sectors (pages + 1) (8 * layout.vam + 100) (omega (arith, few, room)) (omega (arith, bits)) in
     let all : 1 + 2 * (1 + 51 * most_records layout.sectors) + (pages + 1) * (8 * layout.vam + 100) + 2 ^ 29 ≤ 16384 * layout.sectors + 2 ^ 30 = omega (arith, each, records) in
     let most = linear layout.sectors _ s.least all in
     omega (arith, paid, most)
@@ -114,21 +114,21 @@ delete_bounded layout now is same t0 t1 t2 pages few looked later =
     let room = s.room in
     let records = s.records in
     let paid : t2 ≤ t1 + (14 + (1 + pages) * (16 + 4 * layout.vam) + 2 * (1 + 51 * most_records layout.sectors)) = subst (λ (l : Layout). t2 ≤ t1 + (14 + (1 + pages) * (16 + 4 * l.vam) + 2 * (1 + 51 * most_records l.sectors))) same later in
-    let each : (1 + pages) * (16 + 4 * layout.vam) ≤ 2156 * layout.sectors = page_by_page layout.sectors (1 + pages) (16 + 4 * layout.vam) (omega (arith, few, room)) (omega (arith, bits)) in
+    let each : (1 + pages) * (16 + 4 * layout.vam) ≤ 2157 * layout.sectors = page_by_page layout.sectors (1 + pages) (16 + 4 * layout.vam) (omega (arith, few, room)) (omega (arith, bits)) in
     let all : 43 + (1 + pages) * (16 + 4 * layout.vam) + 2 * (1 + 51 * most_records layout.sectors) + 2 ^ 29 ≤ 16384 * layout.sectors + 2 ^ 30 = omega (arith, each, records) in
     let most = linear layout.sectors _ s.least all in
     omega (arith, looked, paid, most)
 
 -- a file that gets another size, after a look at it
-pub resize_bounded : (layout now : Layout) → IsLayout layout → now ≡ layout → (t0 t1 t2 pages : ℕ) → pages ≤ layout.capacity → t1 ≤ t0 + 29 → t2 ≤ t1 + (129 + pages * (8 * now.vam + 100) + 102 * most_records now.sectors) → t2 + 2 ^ 29 ≤ t0 + other_bound layout.sectors
+pub resize_bounded : (layout now : Layout) → IsLayout layout → now ≡ layout → (t0 t1 t2 pages : ℕ) → pages ≤ layout.capacity → t1 ≤ t0 + 29 → t2 ≤ t1 + (129 + pages * (8 * now.vam + 101) + 102 * most_records now.sectors) → t2 + 2 ^ 29 ≤ t0 + other_bound layout.sectors
 resize_bounded layout now is same t0 t1 t2 pages few looked later =
     let s = small layout is in
     let bits = s.bits in
     let room = s.room in
     let records = s.records in
-    let paid : t2 ≤ t1 + (129 + pages * (8 * layout.vam + 100) + 102 * most_records layout.sectors) = subst (λ (l : Layout). t2 ≤ t1 + (129 + pages * (8 * l.vam + 100) + 102 * most_records l.sectors)) same later in
-    let each : pages * (8 * layout.vam + 100) ≤ 2156 * layout.sectors = page_by_page layout.sectors pages (8 * layout.vam + 100) (omega (arith, few, room)) (omega (arith, bits)) in
-    let all : 158 + pages * (8 * layout.vam + 100) + 102 * most_records layout.sectors + 2 ^ 29 ≤ 16384 * layout.sectors + 2 ^ 30 = omega (arith, each, records) in
+    let paid : t2 ≤ t1 + (129 + pages * (8 * layout.vam + 101) + 102 * most_records layout.sectors) = subst (λ (l : Layout). t2 ≤ t1 + (129 + pages * (8 * l.vam + 101) + 102 * most_records l.sectors)) same later in
+    let each : pages * (8 * layout.vam + 101) ≤ 2157 * layout.sectors = page_by_page layout.sectors pages (8 * layout.vam + 101) (omega (arith, few, room)) (omega (arith, bits)) in
+    let all : 158 + pages * (8 * layout.vam + 101) + 102 * most_records layout.sectors + 2 ^ 29 ≤ 16384 * layout.sectors + 2 ^ 30 = omega (arith, each, records) in
     let most = linear layout.sectors _ s.least all in
     omega (arith, looked, paid, most)
 
@@ -168,7 +168,7 @@ module _ (spaces_of : TablesMeaning) (disk : DiskState) (slots : Slots) (layout 
 
     -- or got another size, of pages that there is room for
     pub resize_revealed : (pages : ℕ) → pages ≤ layout.capacity → disk.sectors ≡ layout.sectors → mid.transfers ≤ disk.transfers + 29
-        → new.transfers ≤ mid.transfers + (129 + ((pages - a.pages) + (a.pages - pages)) * (8 * now.vam + 100) + 102 * most_records now.sectors) → CostsInside disk new
+        → new.transfers ≤ mid.transfers + (129 + ((pages - a.pages) + (a.pages - pages)) * (8 * now.vam + 101) + 102 * most_records now.sectors) → CostsInside disk new
     resize_revealed pages within on looked paid =
         let f = file_revealed m id a revealed in
         let long : size f.0 ≡ a.pages = ap (λ (w : Shape). w.size) f.2 in

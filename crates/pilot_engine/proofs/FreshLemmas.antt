@@ -1,6 +1,8 @@
 -- A session on a volume that was just made.
 use Rattle.std.proofs.Common.{◌≡◌, ℕ, List, [], ◌∷◌, length, Option, Some, Result, Err, refl, sym, ◌∙◌, ap, subst, arith}
 use Rattle.std.proofs.lemmas.List.FromFn.{length-map-range_with_len}
+use Rattle.labelled_disk.specs.declared.evidence.Halt.{Halt}
+use Rattle.labelled_disk.specs.declared.evidence.Halt.TheVariants as halt
 use Rattle.labelled_disk.specs.declared.layout.Layout.{Layout}
 use Rattle.labelled_disk.specs.declared.layout.RootFault.{RootFault}
 use Rattle.labelled_disk.specs.declared.layout.RootFault.TheVariants as fault
@@ -10,21 +12,27 @@ use Rattle.labelled_disk.specs.Root.{page_in, root_page}
 use Rattle.labelled_disk.specs.Sectors.{Sector}
 use Rattle.labelled_disk.specs.State.{DiskState}
 use Rattle.labelled_disk.proofs.Finds.{get_set_same}
+use Rattle.labelled_disk.proofs.WriteRunLemmas.{appended_none}
 use Rattle.frame_pool.specs.Frames.{Slots}
 use Rattle.flat_machine.specs.Machine.{Machine}
 use Rattle.flat_machine.specs.Space.{root}
 use Rattle.flat_machine.specs.Start.{opened, start}
+use Rattle.swapper_kernel.specs.Goes.{Went}
+use Rattle.filer_kernel.specs.Evidence.{ShowsEvidence}
 use Rattle.volume_root.specs.declared.root.Root.{Root}
 use Rattle.volume_root.specs.Format.{formatted, new_root, new_sector, new_sectors, IsFormatFault}
 use Rattle.volume_root.specs.FormatLaws.{IsEmptyVolume}
+use Rattle.volume_root.specs.Later.{IsLater}
 use Rattle.volume_root.specs.RootPage.{IsValidRoot, root_bytes, root_in}
 use Rattle.labelled_disk.specs.Label.{root_label}
 use Rattle.volume_root.specs.Sound.{Sound}
 use Rattle.volume_root.proofs.NewVolume.{new_is_empty}
 use Rattle.volume_root.proofs.WrittenLemmas.{root_read}
-use Rattle.pilot_engine.specs.Fresh.{MadeVolume, WroteOnNew}
+use Rattle.pilot_engine.specs.declared.fault.StartFault.{StartFault}
+use Rattle.pilot_engine.specs.declared.fault.StartFault.TheVariants.{Root as NoRoot, NoMemory, Halt as Halted}
+use Rattle.pilot_engine.specs.Fresh.{BeganVolume, HasFreshCause, IsFreshFault, MadeVolume, WroteOnNew}
 use Rattle.pilot_engine.specs.NewCrashStates.{KeepsNew}
-use Rattle.pilot_engine.specs.Opening.{IsBare, StartsSome}
+use Rattle.pilot_engine.specs.Opening.{IsBare, IsDiskFault, IsEarly, IsOutside, LeavesOpen, StartsSome}
 use Rattle.pilot_engine.proofs.StartCrashStates.{files_kept}
 use Rattle.pilot_engine.proofs.StartWrites.{start_wrote}
 
@@ -68,17 +76,62 @@ failed_alone n count (fault.NotVolume x) is bad = absurd is
 failed_alone n count fault.Unclean is bad = absurd is
 failed_alone n count (fault.Version x) is bad = absurd is
 
+-- ---- Before the volume is made.
+
+module _ (n : ℕ) where
+  -- a count that no volume has is why none starts
+  pub fresh_count : (f : StartFault) → IsFreshFault n f → ¬ IsCount n → f ≡ NoRoot (fault.BadCount n)
+  fresh_count (NoRoot why) is none = ap NoRoot is.1
+  fresh_count NoMemory is none = absurd (none is)
+  fresh_count (Halted why) is none = absurd (none is)
+
+  -- and where one has it, it is the memory
+  pub fresh_outside : (f : StartFault) → IsFreshFault n f → IsEarly f → IsCount n → IsOutside f
+  fresh_outside (NoRoot why) is early count = absurd (is.0 count)
+  fresh_outside NoMemory is early count = tt
+  fresh_outside (Halted why) is early count = absurd early
+
+  -- never the disk
+  pub fresh_held : (f : StartFault) → IsFreshFault n f → IsEarly f → IsDiskFault f → ⊥
+  fresh_held (NoRoot why) is early failed = cc (sym is.1 ∙ failed)
+  fresh_held NoMemory is early failed = failed
+  fresh_held (Halted why) is early failed = early
+
+pub early_fresh : (old new : DiskState) (f : StartFault) → IsEarly f → HasFreshCause old new f
+early_fresh old new (NoRoot why) early = tt
+early_fresh old new NoMemory early = tt
+early_fresh old new (Halted why) early = absurd early
+
+-- nothing was done
+pub reads_none : (d : DiskState) → OnlyReads d d
+reads_none d = record { sectors = refl; contents = refl; writes = refl; syncs = refl; lent = refl; faults = omega arith; transfers = omega arith; synced = λ s. s }
+
+pub began_none : (d : DiskState) → BeganVolume d d
+began_none d = (0, omega arith, appended_none (record { contents = refl; writes = refl }))
+
+pub later_none : (d : DiskState) → IsLater d d
+later_none d = record { sectors = refl; lent = refl; faults = omega arith }
+
+-- ---- And after it.
+
+pub later_begun : {a b c : DiskState} → IsLater a b → Went b c → IsLater a c
+later_begun first went = record { sectors = went.sectors ∙ first.sectors; lent = went.lent ∙ first.lent; faults = omega (arith, first.faults, went.faults) }
+
+-- where the disk alone failed no damage is shown
+pub disk_evident : (disk : DiskState) (h : Halt) → h ≡ halt.Disk → ShowsEvidence disk h
+disk_evident disk h is = subst (λ (x : Halt). ShowsEvidence disk x) (sym is) tt
+
+pub disk_open : (disk : DiskState) (h : Halt) → h ≡ halt.Disk → LeavesOpen disk h
+disk_open disk h is = subst (λ (x : Halt). LeavesOpen disk x) (sym is) tt
+
 -- what a start wrote on the volume that was made
 pub wrote_on_new : {old made new : DiskState} {s t : Slots} → MadeVolume old made → (root : Root) → root ≡ new_root old.sectors 1 1 → IsBare s → StartsSome root made s new t → WroteOnNew old new
 wrote_on_new {made = made} volume root same bare starts = record {
   made = made;
   volume = volume;
-  wrote = start_wrote (itself made) root bare starts;
+  wrote = start_wrote (reads_none made) root bare starts;
   root = same;
 }
-  where
-    itself : (d : DiskState) → OnlyReads d d
-    itself d = record { sectors = refl; contents = refl; writes = refl; syncs = refl; lent = refl; faults = omega arith; transfers = omega arith; synced = λ s. s }
 
 -- and what stands in each crash state of it
 pub keeps_new : {old made_so new : DiskState} {s t : Slots} (d : List Sector) → length d ≡ old.sectors → IsCount old.sectors → old.contents ≡ Some d → MadeVolume old made_so → (root : Root) → root ≡ new_root old.sectors 1 1

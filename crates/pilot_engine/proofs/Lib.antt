@@ -12,6 +12,7 @@ pub mod StartStands
 pub mod StartWrites
 pub mod StartRuns
 pub mod StartFaults
+mod StartCosts
 pub mod InitialStateLemmas
 pub mod FormLemmas
 pub mod BeginLemmas
@@ -72,3 +73,4 @@ mod FailSteps
 mod AskedSteps
 mod EndSteps
 mod CallSteps
+mod HaltedSteps

@@ -27,11 +27,12 @@ use Rattle.pilot_engine.specs.Calls.{Accounts, Answers, Stays}
 use Rattle.pilot_engine.specs.Outcomes.{AccountsFor, Remains, WritesAs}
 use Rattle.pilot_engine.specs.Reasons.{SeesHome}
 use Rattle.pilot_engine.specs.Showing.{DirtiesShown, mapped_by}
-use Rattle.pilot_engine.specs.Stepping.{brings_clients}
+use Rattle.pilot_engine.specs.Stepping.{brings_clients, writes_leader}
 use Rattle.pilot_engine.proofs.HomeSteps.{none_or_blameless, still_or_blameless}
 use Rattle.pilot_engine.proofs.LabelLemmas.{pages_alone}
 use Rattle.pilot_engine.proofs.LackLemmas.{Misses, fails_missing_page}
 use Rattle.pilot_engine.proofs.LiftLemmas.{still_open}
+use Rattle.pilot_engine.proofs.OwnLemmas.{around_other}
 use Rattle.pilot_engine.proofs.ReasonSteps.{moving_ahead, moving_reasons}
 use Rattle.pilot_engine.proofs.SparedCalls.{spares_quiet}
 use Rattle.pilot_engine.proofs.WindowLemmas.{on_or_more}
@@ -54,13 +55,14 @@ module _ {D A : Type 0} {G : Ghosts D} (old : Session D A G) (core : Core D A G)
   remains_on opened layout = record { stays = stays_on opened layout; running = refl }
 
   -- it writes no label
-  pub writes_on : {pages : Pages} (call : Call) (r : Result Reply Halt) → WroteIn (may_dirty call) (state old.core).disk (state old.core).slots (state core).disk (state core).slots → DirtiesShown call old (record old { core = core })
+  pub writes_on : {pages : Pages} (call : Call) (r : Result Reply Halt) → writes_leader call ≡ false → WroteIn (may_dirty call) (state old.core).disk (state old.core).slots (state core).disk (state core).slots → DirtiesShown call old (record old { core = core })
       → MakesOnly pages [] (state old.core) (state core) → WritesAs call old (record old { core = core }) r
-  writes_on call r dirtied shown makes = record {
+  writes_on call r never dirtied shown makes = record {
     wrote = dirtied;
     shown = shown;
     own = allowed_asked r (next_id old.volume.root) (counted old.volume.root) old.volume.root call makes;
     spares = λ id client other fresh. spares_quiet makes id client;
+    around = around_other call never;
     unlabelled = λ keeps. pages_alone makes;
   }
 

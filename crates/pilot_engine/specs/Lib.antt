@@ -22,3 +22,5 @@ pub mod Writing
 pub mod Showing
 pub mod StoreReady
 pub mod Outcomes
+pub mod Ending
+pub mod Starting

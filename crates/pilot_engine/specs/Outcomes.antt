@@ -1,6 +1,6 @@
--- How a call that a session makes inside ends: how it fails, what it wrote and what stays, what it keeps to, and what it did to the machine that
--- the session stood for.
-use Rattle.std.specs.Prelude.{◌≡◌, ℕ, true, List, [], None, Result, IfOk, IfErr, IsOk, OnOk, MatchResult}
+-- How a call of a session ends, a client's and one that it makes inside: how it fails, what it wrote and what stays, what it keeps to, and what it
+-- did to the machine that the session stood for.
+use Rattle.std.specs.Prelude.{◌≡◌, ℕ, true, false, List, [], None, Result, IfOk, IfErr, IsOk, OnOk, OnErr, MatchResult}
 use Rattle.labelled_disk.specs.declared.disk.Disk.{Ghosts}
 use Rattle.labelled_disk.specs.declared.evidence.Halt.{Halt}
 use Rattle.labelled_disk.specs.declared.evidence.Halt.TheVariants as halt
@@ -11,6 +11,7 @@ use Rattle.flat_machine.specs.declared.call.Reply.{Reply}
 use Rattle.flat_machine.specs.declared.space.Space.{Space}
 use Rattle.flat_machine.specs.Machine.{Machine}
 use Rattle.flat_machine.specs.Refusal.{refusal}
+use Rattle.label_calls.specs.Synced.{SyncsLeaders}
 use Rattle.filer_kernel.specs.Fails.{Fails}
 use Rattle.filer_kernel.specs.View.{FitsLayout, MakesOnly, View}
 use Rattle.session_words.specs.Parts.{TablesMeaning}
@@ -26,13 +27,13 @@ use Rattle.running_words.specs.Stages.{Passes, may_dirty}
 use Rattle.space_calls.specs.Sees.{SeesOn, StillOnOr, StillSees}
 use Rattle.pilot_engine.specs.declared.session.Session.{Session}
 use Rattle.pilot_engine.specs.Advised.{IsAdvised}
-use Rattle.pilot_engine.specs.Calls.{Accounts, Answers, SparesOthers, Stays}
+use Rattle.pilot_engine.specs.Calls.{Accounts, Answers, ResizesAfterSync, SparesOthers, Stays}
 use Rattle.pilot_engine.specs.Closing.{Shed, Throughout}
 use Rattle.pilot_engine.specs.Labels.{WritesPagesAlone, keeps_labels}
 use Rattle.pilot_engine.specs.Reasons.{IsBlameless, NeverBlamesEnd, SeesHome}
 use Rattle.pilot_engine.specs.Showing.{DirtiesShown, mapped_by}
 use Rattle.pilot_engine.specs.Sparing.{SparesBut}
-use Rattle.pilot_engine.specs.Stepping.{IsResident, StepHalts, missing_page, waits}
+use Rattle.pilot_engine.specs.Stepping.{IsResident, StepHalts, missing_page, waits, writes_leader}
 use Rattle.pilot_engine.specs.Writing.{Clears, FileMay, WritesAllowed, Written}
 
 -- ---- How it fails, over any contents.
@@ -61,7 +62,13 @@ module _ {D A : Type 0} {G : Ghosts D} where
     pub stays : Stays old new
     pub running : new.running ≡ old.running
 
-  -- The same, and what is known of the space tables stays.
+  -- The session stays, and it runs until a call halts.
+  pub record RunsUntilHalt {T : Type 0} (old new : Session D A G) (result : Result T Halt) : Type 0 where
+    pub stays : Stays old new
+    pub goes_on : OnOk result (new.running ≡ true)
+    pub halted : OnErr result (new.running ≡ false)
+
+  -- The session stays, running as it was, and what is known of the space tables stays.
   pub record RemainsInside (old new : Session D A G) : Type 0 where
     pub stays : Stays old new
     pub running : new.running ≡ old.running
@@ -138,12 +145,13 @@ module _ {D A : Type 0} {G : Ghosts D} where
 
   -- ---- A client's call.
 
-  -- What the call did, where the session stood for the machine; what it waits for is on the medium; the frames show what it leaves in them; and
-  -- where a load or a store finds its pages ready, the disk is left alone.
+  -- What the call did, where the session stood for the machine; what it waits for is on the medium; the frames show what it leaves in them; labels
+  -- that give a permanent file another size come after a sync; and where a load or a store finds its pages ready, the disk is left alone.
   pub record AnswersAll (m : Machine) (call : Call) (old new : Session D A G) (result : Result Reply Halt) : Type 0 where
     pub answers : Answers m call old new result
     pub forced : waits call ≡ true → refusal m call ≡ None → OnOk result ((state new.core).disk.synced ≡ true)
     pub advised : refusal m call ≡ None → OnOk result (IsAdvised m.spaces call (kept new.core) (state new.core).slots)
+    pub resizes : ResizesAfterSync m call old new
     pub idle : IsResident call (kept old.core) (state old.core).slots → IsOk result × ((state new.core).disk ≡ (state old.core).disk)
 
   -- How it fails, and which page of a file may be missing then, by the spaces that are seen.
@@ -156,12 +164,13 @@ module _ {D A : Type 0} {G : Ghosts D} where
     pub accounts : Accounts o (giving o (next_id new.volume.root)) old new result
     pub windows : OnOk result (StillOnOr (mapped_by (next_id old.volume.root) call) old.core new.core)
 
-  -- Which pages it made dirty, each of its writes, whose files are spared, and which calls write no label.
+  -- Which pages it made dirty, each of its writes, whose files are spared, between which syncs a leader is written, and which calls write no label.
   pub record WritesAs (call : Call) (old new : Session D A G) (result : Result Reply Halt) : Type 0 where
     pub wrote : WroteIn (may_dirty call) (state old.core).disk (state old.core).slots (state new.core).disk (state new.core).slots
     pub shown : DirtiesShown call old new
     pub own : WritesAllowed call old new result
     pub spares : SparesOthers call old new
+    pub around : writes_leader call ≡ true → SyncsLeaders result (state old.core).disk (state new.core).disk
     pub unlabelled : keeps_labels call ≡ true → WritesPagesAlone (state old.core).disk (state new.core).disk
 
   -- ---- The session's end.

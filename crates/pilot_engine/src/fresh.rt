@@ -1,22 +1,16 @@
 //! A session is started on a volume that is made for it.
-ghost use Rattle.std.specs.Prelude.{◌≡◌, ◌⊎◌, ◌≤◌, ◌<◌, List, Some, true, length, IfOk, IfErr, OnOk, OnErr, MatchResult};
+ghost use Rattle.std.specs.Prelude.{◌≡◌, ◌≤◌, List, Some, true, length, IfOk, IfErr, OnOk, OnErr};
 ghost use Rattle.labelled_disk.specs.declared.evidence.Halt.TheVariants as halt;
-ghost use Rattle.labelled_disk.specs.declared.layout.RootFault.TheVariants as fault;
-ghost use Rattle.labelled_disk.specs.Calls.{OnlyReads, Rose};
-ghost use Rattle.labelled_disk.specs.Layout.{IsCount, capacity};
+ghost use Rattle.labelled_disk.specs.Calls.{Rose};
+ghost use Rattle.labelled_disk.specs.Layout.{IsCount};
 ghost use Rattle.labelled_disk.specs.Sectors.{Sector};
-ghost use Rattle.flat_machine.specs.Start.{opened};
 ghost use Rattle.volume_root.specs.Format.{new_root};
 ghost use Rattle.volume_root.specs.Later.{IsLater};
-ghost use Rattle.pilot_engine.specs.declared.fault.StartFault.TheVariants as start_fault;
-ghost use Rattle.pilot_engine.specs.Fresh.{BeganVolume, HasFreshCause, IsFreshFault, MadeVolume, WroteOnNew};
-ghost use Rattle.pilot_engine.specs.NewCrashStates.{KeepsNew};
-ghost use Rattle.pilot_engine.specs.Opening.{IsDiskFault, IsEarly, IsOutside, IsSoAtStart, IsUnset, LeavesOpenAtStart, IsBlank};
-ghost use Rattle.running_words.specs.Running.{Runs};
-ghost use Rattle.running_words.specs.Session.{IsOpen};
-ghost use Rattle.filer_kernel.specs.View.{disk_of, FitsLayout, view_of};
-ghost use Rattle.fault_core.specs.Core.{state};
+ghost use Rattle.pilot_engine.specs.Fresh.{BeganVolume, HasFreshCause, IsFreshFault, MadeVolume};
+ghost use Rattle.pilot_engine.specs.Opening.{IsEarly, IsBlank};
+ghost use Rattle.filer_kernel.specs.View.{disk_of, view_of};
 ghost use Rattle.file_manager.specs.Stays.{FramesStay};
+ghost use Rattle.pilot_engine.specs.Starting.{FailsAtStart, StartsNew, StartsWith, RefusesNew, WritesNewVolume};
 
 use crate::start::begin;
 use crate::{Session, StartFault};
@@ -83,36 +77,15 @@ impl<D: Disk, A: Allocator> Session<D, A> {
     pub fn fresh(alloc: A, disk: D, frames: u32) -> Result<Session<D, A>, (StartFault, D)>
         requires least { 24 ≤ frames }
         requires most { frames ≤ 4096 }
-        ensures stands { (d : List Sector) → (D.state disk).contents ≡ Some d
-            → IfOk result (λ s. Runs s.core s.volume (opened 1 1 (capacity (D.state disk).sectors))) }
-        ensures size { IfOk result (λ s. FitsLayout (state s.core)) }
-        ensures opened { IfOk result (λ s. IsOpen (state s.core).layout s.volume) }
-        ensures running { IfOk result (λ s. s.running ≡ true) }
-        ensures frames { IfOk result (λ s. length (state s.core).slots ≡ frames) }
+        ensures machine { (d : List Sector) → (D.state disk).contents ≡ Some d → StartsNew (D.state disk) result }
+        ensures session { StartsWith frames result }
 
         // No session starts.
-        ensures count { ¬ IsCount (D.state disk).sectors
-            → MatchResult result (λ s. ⊥) (λ e. e.0 ≡ start_fault.Root (fault.BadCount (D.state disk).sectors)) }
-        ensures refused { IfErr result (λ e. IsFreshFault (D.state disk).sectors e.0) }
-        ensures unwritten { IfErr result (λ e. IsEarly e.0 → OnlyReads (D.state disk) (D.state e.1)) }
-        ensures counted { IfErr result (λ e. IsDiskFault e.0 → Rose (D.state disk).faults (D.state e.1).faults) }
-        ensures sound { (d : List Sector) → (D.state disk).contents ≡ Some d → IsCount (D.state disk).sectors
-            → IfErr result (λ e. IsOutside e.0) }
-        ensures cause { IfErr result (λ e. HasFreshCause (D.state disk) (D.state e.1) e.0) }
-        ensures evidence_seen { IfErr result (λ e. IsSoAtStart (D.state e.1) e.0) }
+        ensures refuses { RefusesNew (D.state disk) result }
+        ensures fails { FailsAtStart HasFreshCause (D.state disk) result }
 
-        // What was written, whether or not one starts.
-        ensures wrote { MatchResult result (λ s. WroteOnNew (D.state disk) (state s.core).disk)
-            (λ e. BeganVolume (D.state disk) (D.state e.1) ⊎ WroteOnNew (D.state disk) (D.state e.1)) }
-        ensures crash_states { (d : List Sector) → (D.state disk).contents ≡ Some d
-            → MatchResult result (λ s. KeepsNew (D.state disk) (state s.core).disk)
-            (λ e. BeganVolume (D.state disk) (D.state e.1) ⊎ KeepsNew (D.state disk) (D.state e.1)) }
-        ensures left_open { MatchResult result (λ s. IsUnset (state s.core).disk)
-            (λ e. LeavesOpenAtStart (D.state e.1) e.0) }
-
-        // The disk is the same, later.
-        ensures later { MatchResult result (λ s. IsLater (D.state disk) (state s.core).disk)
-            (λ e. IsLater (D.state disk) (D.state e.1)) }
+        // Whether or not one starts.
+        ensures writes { WritesNewVolume (D.state disk) result }
     {
         let (mut filer, layout) = match frames_for(alloc, disk, frames) {
             Ok(opened) => opened,

@@ -1,20 +1,14 @@
 //! A session is started over a root that was read before.
-ghost use Rattle.std.specs.Prelude.{◌≡◌, ◌≢◌, ◌≤◌, true, List, Some, IfOk, IfErr, MatchResult};
-ghost use Rattle.labelled_disk.specs.Calls.{Rose};
+ghost use Rattle.std.specs.Prelude.{◌≡◌, ◌≤◌, true, List, Some, IfOk, IfErr};
 ghost use Rattle.labelled_disk.specs.Root.{root_page};
 ghost use Rattle.labelled_disk.specs.Sectors.{Sector};
-ghost use Rattle.labelled_disk.specs.declared.layout.RootFault.{RootFault};
 ghost use Rattle.flat_machine.specs.Start.{start};
-ghost use Rattle.swapper_kernel.specs.Goes.{Went};
 ghost use Rattle.volume_root.specs.RootPage.{IsValidRoot, root_in};
 ghost use Rattle.volume_root.specs.Sound.{Sound};
-ghost use Rattle.running_words.specs.Running.{Runs};
-ghost use Rattle.running_words.specs.Session.{IsOpen};
-ghost use Rattle.pilot_engine.specs.declared.fault.StartFault.TheVariants as start_fault;
-ghost use Rattle.pilot_engine.specs.Opening.{IsDiskFault, IsOutside, IsSoAtStart, IsUnset, LeavesOpenAtStart, IsBlank};
-ghost use Rattle.pilot_engine.specs.Rest.{CostsRest};
-ghost use Rattle.filer_kernel.specs.View.{disk_of, FitsLayout, view_of};
-ghost use Rattle.fault_core.specs.Core.{state};
+ghost use Rattle.pilot_engine.specs.Opening.{IsBlank};
+ghost use Rattle.filer_kernel.specs.View.{disk_of, view_of};
+ghost use Rattle.pilot_engine.specs.Starting.{FailsFromRoot, LeavesFromRoot, StartsAs};
+ghost use Rattle.pilot_engine.specs.Referring.{TakesCalls};
 
 use crate::start::begin;
 use crate::{Session, StartFault};
@@ -63,29 +57,10 @@ impl<D: Disk, A: Allocator> Session<D, A> {
         requires most { frames ≤ 4096 }
         requires valid { IsValidRoot (D.state disk).sectors root }
         requires read { (d : List Sector) → (D.state disk).contents ≡ Some d → root ≡ root_in (root_page d) }
-        ensures stands { (d : List Sector) → (D.state disk).contents ≡ Some d → Sound d
-            → IfOk result (λ s. Runs s.core s.volume (start d)) }
-        ensures size { IfOk result (λ s. FitsLayout (state s.core)) }
-        ensures opened { IfOk result (λ s. IsOpen (state s.core).layout s.volume) }
-        ensures running { IfOk result (λ s. s.running ≡ true) }
-
-        // No session starts.
-        ensures memory { IfErr result (λ e. e.0 ≡ start_fault.NoMemory → e.1 ≡ disk) }
-        ensures no_root { (why : RootFault) → IfErr result (λ e. e.0 ≢ start_fault.Root why) }
-        ensures sound { (d : List Sector) → (D.state disk).contents ≡ Some d → Sound d
-            → IfErr result (λ e. IsOutside e.0) }
-        ensures counted { IfErr result (λ e. IsDiskFault e.0 → Rose (D.state disk).faults (D.state e.1).faults) }
-        ensures evidence_seen { IfErr result (λ e. IsSoAtStart (D.state e.1) e.0) }
-        ensures revealed { (d : List Sector) → (D.state disk).contents ≡ Some d
-            → IfErr result (λ e. (h : List Sector) × ((D.state e.1).contents ≡ Some h)) }
-
-        // Whether or not one starts.
-        ensures went { MatchResult result (λ s. Went (D.state disk) (state s.core).disk)
-            (λ e. Went (D.state disk) (D.state e.1)) }
-        ensures left_open { MatchResult result (λ s. IsUnset (state s.core).disk)
-            (λ e. LeavesOpenAtStart (D.state e.1) e.0) }
-        ensures bounded { MatchResult result (λ s. CostsRest (D.state disk) (state s.core).disk)
-            (λ e. CostsRest (D.state disk) (D.state e.1)) }
+        ensures machine { (d : List Sector) → (D.state disk).contents ≡ Some d → Sound d → StartsAs (start d) result }
+        ensures takes { IfOk result TakesCalls }
+        ensures fails { FailsFromRoot disk result }
+        ensures leaves { LeavesFromRoot (D.state disk) result }
     {
         let (mut filer, layout) = match filer_over(alloc, disk, root, frames) {
             Ok(opened) => opened,

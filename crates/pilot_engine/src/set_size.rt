@@ -63,7 +63,7 @@ impl<D: Disk, A: Allocator> Session<D, A> {
         ensures writes { WritesFile (call.SetSize id pages) (SparesBut id) self.old self.new }
         ensures remains { RemainsInside self.old self.new }
         ensures cost { (state self.new.core).disk.transfers ≤ (state self.old.core).disk.transfers
-            + (158 + 4294967295 * (8 * (state self.old.core).layout.vam + 100) + 102 * most_records
+            + (158 + 4294967295 * (8 * (state self.old.core).layout.vam + 101) + 102 * most_records
             (state self.old.core).layout.sectors) }
         ensures bounded { (spaces_of : TablesMeaning) (m : Machine) → IsIn spaces_of self.old m
             → CostsInside (state self.old.core).disk (state self.new.core).disk }

@@ -1,36 +1,29 @@
 //! A session is started on a volume that was closed.
-ghost use Rattle.std.specs.Prelude.{◌≡◌, ◌⊎◌, ℕ, ◌+◌, ◌-◌, ◌*◌, ◌^◌, ◌<◌, ◌≤◌, min, true, List, [], ◌∷◌, ◌++◌, length, Some, IfOk, IfErr, OnOk, MatchResult};
+ghost use Rattle.std.specs.Prelude.{◌≡◌, ℕ, ◌+◌, ◌-◌, ◌*◌, ◌^◌, ◌<◌, ◌≤◌, min, true, List, [], ◌∷◌, ◌++◌, length, Some, IfOk, IfErr, OnOk, MatchResult};
 ghost use Rattle.labelled_disk.specs.declared.evidence.Halt.TheVariants as halt;
-ghost use Rattle.labelled_disk.specs.declared.layout.RootFault.TheVariants as fault;
-ghost use Rattle.labelled_disk.specs.Calls.{OnlyReads, ReadsAtMost, Rose};
+ghost use Rattle.labelled_disk.specs.Calls.{ReadsAtMost, Rose};
 ghost use Rattle.labelled_disk.specs.declared.disk.DiskWrite.{DiskWrite};
-ghost use Rattle.labelled_disk.specs.Layout.{IsCount, layout_of};
 ghost use Rattle.file_map.specs.FileMap.{Triples, most_records};
-ghost use Rattle.labelled_disk.specs.Root.{LabelsRight, root_page};
+ghost use Rattle.labelled_disk.specs.Root.{root_page};
 ghost use Rattle.labelled_disk.specs.Sectors.{Sector};
 ghost use Rattle.filer_kernel.specs.View.{FitsLayout, MakesOnly, TablesAre, view_of};
 ghost use Rattle.flat_machine.specs.Start.{start};
-ghost use Rattle.swapper_kernel.specs.Goes.{Goes, IsDirty, no_page};
+ghost use Rattle.swapper_kernel.specs.Goes.{Goes, no_page};
 ghost use Rattle.label_calls.specs.Labels.{MayHaveWritten};
 ghost use Rattle.labelled_disk.specs.CrashState.{written};
 ghost use Rattle.session_words.specs.Volume.{volume_page};
-ghost use Rattle.volume_root.specs.Flag.{IsRefused};
 ghost use Rattle.volume_root.specs.RootPage.{IsValidRoot, root_in, root_write};
 ghost use Rattle.volume_root.specs.Sound.{Sound};
-ghost use Rattle.running_words.specs.Bound.{CostsOther};
-ghost use Rattle.pilot_engine.specs.declared.fault.StartFault.TheVariants as start_fault;
-ghost use Rattle.pilot_engine.specs.Writing.{BeginMay, Written};
-ghost use Rattle.pilot_engine.specs.Opening.{root_alone, in_use, IsBare, StartsSome, WroteFirst, SyncsFirst, KeepsFiles, CostsStart, IsDiskFault, IsOutside, IsEarly, IsRightRefusal, IsUnset, LeavesOpen, IsSoAtStart, LeavesOpenAtStart, IsBlank, KeepsNumbers, Refuses};
-ghost use Rattle.running_words.specs.Running.{IsRunning, Runs};
+ghost use Rattle.pilot_engine.specs.Opening.{root_alone, in_use, IsBare, StartsSome, SyncsFirst, IsDiskFault, IsEarly, IsUnset, LeavesOpen, IsBlank, KeepsNumbers, Refuses};
+ghost use Rattle.running_words.specs.Running.{IsRunning};
 ghost use Rattle.running_words.specs.Session.{IsOpen, IsSession};
 ghost use Rattle.pilot_engine.specs.Beginning.{HasStartCause, StartHalts, TablesHalts};
 ghost use Rattle.file_manager.specs.Reasons.{Keeps, KeepsOn, InitialState, ShowsReason, initial_state};
-ghost use Rattle.pilot_engine.specs.Reasons.{FromStart, IsBegun, SeesRoot, ShowsReasonAtStart, NeverBlamesFiles, NeverBlamesFilesAtStart, AccountsBegun};
-ghost use Rattle.space_calls.specs.Sees.{SeesFiles};
-ghost use Rattle.file_manager.specs.Creating.{IsMonotone, next_id};
-ghost use Rattle.fault_core.specs.Core.{state};
+ghost use Rattle.pilot_engine.specs.Reasons.{IsBegun, SeesRoot, NeverBlamesFiles, AccountsBegun};
+ghost use Rattle.file_manager.specs.Creating.{next_id};
 ghost use Rattle.pilot_engine.specs.Outcomes.{FailsSo};
 ghost use Rattle.file_manager.specs.Stays.{FramesStay};
+ghost use Rattle.pilot_engine.specs.Starting.{AccountsAtStart, FailsAtStart, OnDisk, SpendsAtStart, StartsAs, StartsWith, WritesAtStart};
 
 use crate::frames::look_at_frames;
 use crate::{Session, StartFault};
@@ -217,59 +210,18 @@ impl<D: Disk, A: Allocator> Session<D, A> {
     pub fn over(alloc: A, disk: D, frames: u32) -> Result<Session<D, A>, (StartFault, D)>
         requires least { 24 ≤ frames }
         requires most { frames ≤ 4096 }
-        ensures stands { (d : List Sector) → (D.state disk).contents ≡ Some d → Sound d
-            → IfOk result (λ s. Runs s.core s.volume (start d)) }
-        ensures size { IfOk result (λ s. FitsLayout (state s.core)) }
-        ensures opened { IfOk result (λ s. IsOpen (state s.core).layout s.volume) }
-        ensures running { IfOk result (λ s. s.running ≡ true) }
-        ensures frames { IfOk result (λ s. length (state s.core).slots ≡ frames) }
-        ensures clean { IfOk result (λ s. (id page : ℕ) → IsDirty (state s.core).slots id page → volume_page id page) }
+        ensures machine { (d : List Sector) → (D.state disk).contents ≡ Some d → Sound d → StartsAs (start d) result }
+        ensures session { StartsWith frames result }
 
         // No session starts.
-        ensures count { ¬ IsCount (D.state disk).sectors
-            → MatchResult result (λ s. ⊥) (λ e. e.0 ≡ start_fault.Root (fault.BadCount (D.state disk).sectors)) }
-        ensures bad_count { (n : ℕ)
-            → IfErr result
-            (λ e.
-            e.0 ≡ start_fault.Root (fault.BadCount n)
-            → ¬ IsCount (D.state disk).sectors × (n ≡ (D.state disk).sectors)) }
-        ensures refused { (d : List Sector) (why : RootFault) → (D.state disk).contents ≡ Some d → IsRefused d why
-            → MatchResult result (λ s. ⊥) (λ e. (e.0 ≡ start_fault.Root why) ⊎ (e.0 ≡ start_fault.Root fault.Disk)) }
-        ensures judged { (d : List Sector) → (D.state disk).contents ≡ Some d
-            → IfErr result (λ e. IsRightRefusal d e.0) }
-        ensures sound { (d : List Sector) → (D.state disk).contents ≡ Some d → Sound d
-            → IfErr result (λ e. IsOutside e.0) }
-        ensures unwritten { IfErr result (λ e. IsEarly e.0 → OnlyReads (D.state disk) (D.state e.1)) }
-        ensures counted { IfErr result (λ e. IsDiskFault e.0 → Rose (D.state disk).faults (D.state e.1).faults) }
-        ensures cause { IfErr result (λ e. HasStartCause (D.state disk) (D.state e.1) e.0) }
-        ensures keeps_to { (d : List Sector) (named : Triples) (ws : List DiskWrite) → IsBegun d named ws (D.state disk)
-            → IfOk result (λ s. FromStart d named ws (λ o. KeepsOn o s.core.filer)) }
-        ensures reasons { (d : List Sector) (named : Triples) (ws : List DiskWrite) → IsBegun d named ws (D.state disk)
-            → IfErr result
-            (λ e. FromStart d named ws (λ o. ShowsReasonAtStart o (layout_of (length d)) (D.state e.1) e.0)) }
-        ensures sees { (d : List Sector) (named : Triples) (ws : List DiskWrite) → IsBegun d named ws (D.state disk)
-            → MatchResult result (λ s. SeesFiles no_page s.core) (λ e. NeverBlamesFilesAtStart e.0) }
-        ensures root { (d : List Sector) → (D.state disk).contents ≡ Some d
-            → MatchResult result
-            (λ s.
-            IsMonotone (root_in (root_page d)) s.volume.root
-            × Written (BeginMay (root_in (root_page d))) (D.state disk) (state s.core).disk)
-            (λ e. Written (BeginMay (root_in (root_page d))) (D.state disk) (D.state e.1)) }
-        ensures evidence_seen { IfErr result (λ e. IsSoAtStart (D.state e.1) e.0) }
+        ensures refuses { Refuses (D.state disk) result }
+        ensures fails { FailsAtStart HasStartCause (D.state disk) result }
 
-        // What was written, whether or not one starts.
-        ensures crash_states { (d : List Sector) → (D.state disk).contents ≡ Some d → LabelsRight d
-            → MatchResult result (λ s. KeepsFiles d (D.state disk) (state s.core).disk)
-            (λ e. KeepsFiles d (D.state disk) (D.state e.1)) }
-        ensures synced { IfOk result (λ s. SyncsFirst (D.state disk) (state s.core).disk) }
-        ensures wrote { MatchResult result (λ s. WroteFirst (D.state disk) (state s.core).disk)
-            (λ e. WroteFirst (D.state disk) (D.state e.1)) }
-        ensures left_open { MatchResult result (λ s. IsUnset (state s.core).disk)
-            (λ e. LeavesOpenAtStart (D.state e.1) e.0) }
-        ensures cost { MatchResult result (λ s. CostsStart (D.state disk) (state s.core).disk)
-            (λ e. CostsStart (D.state disk) (D.state e.1)) }
-        ensures bounded { MatchResult result (λ s. CostsOther (D.state disk) (state s.core).disk)
-            (λ e. CostsOther (D.state disk) (D.state e.1)) }
+        // Whether or not one starts.
+        ensures accounts { (d : List Sector) (named : Triples) (ws : List DiskWrite) → IsBegun d named ws (D.state disk)
+            → AccountsAtStart d named ws result }
+        ensures writes { WritesAtStart (D.state disk) result }
+        ensures spends { OnDisk (SpendsAtStart (D.state disk)) result }
     {
         let (mut filer, layout, root) = match frames_over(alloc, disk, frames) {
             Ok(opened) => opened,

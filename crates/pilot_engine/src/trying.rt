@@ -5,13 +5,11 @@ ghost use Rattle.flat_machine.specs.Form.{IsInForm};
 ghost use Rattle.flat_machine.specs.Machine.{Machine};
 ghost use Rattle.flat_machine.specs.declared.call.Call.TheVariants as calls;
 ghost use Rattle.flat_machine.specs.declared.call.Reply.TheVariants as reply;
-ghost use Rattle.filer_kernel.specs.View.{FitsLayout};
 ghost use Rattle.file_manager.specs.Creating.{next_id};
 ghost use Rattle.file_manager.specs.Reasons.{KeepsOn, InitialState, IsNotOlder, giving};
-ghost use Rattle.fault_core.specs.Core.{state};
 ghost use Rattle.running_words.specs.Running.{Runs};
-ghost use Rattle.running_words.specs.Session.{IsOpen};
 ghost use Rattle.pilot_engine.specs.Calls.{Accounts};
+ghost use Rattle.pilot_engine.specs.Referring.{TakesCalls};
 ghost use Rattle.pilot_engine.specs.Trying.{Tries, TriesIn, WritesLabels, replied_as, tried_as};
 ghost use Rattle.pilot_engine.specs.Outcomes.{IsSetUp};
 
@@ -69,11 +67,9 @@ impl<D: Disk, A: Allocator> Session<D, A> {
     /// which a page is not resident does nothing, and gives the first such page; where a space is to be brought in, it is
     /// looked up.
     pub fn try_step(&mut self, call: &Call) -> Result<Tried, Halt>
-        requires size { FitsLayout (state self.old.core) }
-        requires opened { IsOpen (state self.old.core).layout self.old.volume }
+        requires taken { TakesCalls self.old }
         requires more { ends_trace call.now ≡ false }
         requires in_form { IsInForm call.now }
-        requires running { self.old.running ≡ true }
         ensures machine { (m : Machine) → Runs self.old.core self.old.volume m
             → TriesIn m call.now self.old result self.new }
         ensures accounts { (o : InitialState) → KeepsOn o self.old.core.filer → IsNotOlder o self.old.volume.root

@@ -189,6 +189,7 @@ module _ {D : Type 0} (state : D → DiskState) (x y : D) (same : x ≡ y) where
         each = leads.1.each;
       },
       leads.2,
+      leads.3,
     )
 
     pub run_after : (s : Status) (d : List Sector) (b t : List ℕ) (left took : Option (List ℕ)) (failed : Type 0) → Run s d b left t took failed (lent_state m first) (lent_state n (state y)) → Run s d b left t took failed first (state x)

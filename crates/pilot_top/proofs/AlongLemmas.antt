@@ -40,6 +40,11 @@ by_most k l le = elim (cases_lt k l) [
   | inr more ↦ inr (omega (arith, le, more), omega arith)
 ]
 
+-- a place by that of a line that is no later than line x is at line x or an earlier one
+pub line_by : (l g k h x : ℕ) → IsBy l g k h → k ≤ x → l ≤ x
+line_by l g k h x (inl less) most = omega (arith, less, most)
+line_by l g k h x (inr same) most = let here = same.0 in omega (arith, here, most)
+
 -- Some writes and then others.
 
 -- Where the first ones end the place is that of the others.
@@ -100,6 +105,22 @@ module _ (P : ℕ → ℕ → List Sector → Type 0) (j i k h l g : ℕ) {a b c
         | inl less ↦ omega (arith, below, less)
         | inr same ↦ let here = same.0 in omega (arith, below, here)
       ]
+
+  -- the places of the first ones are as they were
+  pub was_at : (n : ℕ) → n < length one.writes → along_then.line n ≡ one.line n
+  was_at n few = by (cases_lt n (length one.writes))
+    where
+      by : (s : (n < length one.writes) ⊎ (length one.writes ≤ n)) → line_at n s ≡ one.line n
+      by (inl less) = refl
+      by (inr past) = absurd (omega (arith, few, past))
+
+  -- where n of the others are at lines up to x, so are these and the first ones
+  pub stays_by : (n x : ℕ) → k ≤ x → ((i : ℕ) → i < n → two.line i ≤ x) → (i : ℕ) → i < length one.writes + n → along_then.line i ≤ x
+  stays_by n x most others i below = by (cases_lt i (length one.writes))
+    where
+      by : (s : (i < length one.writes) ⊎ (length one.writes ≤ i)) → line_at i s ≤ x
+      by (inl few) = line_by (one.line i) (one.step i) k h x (one.last i) most
+      by (inr past) = others (i - length one.writes) (omega (arith, below, past))
 
   pub goes_on_at : (n : ℕ) → along_then.line (length one.writes + n) ≡ two.line n
   goes_on_at n = by (cases_lt (length one.writes + n) (length one.writes))
@@ -165,12 +186,21 @@ along_throughout P j i all = record {
 }
 
 -- no write
-pub along_none : (P : ℕ → ℕ → List Sector → Type 0) (j i : ℕ) {a b : DiskState} → RevealsSame a b → ((d : List Sector) → a.contents ≡ Some d → P j i d) → Along P j i j i a b
-along_none P j i {a} same here = along_throughout P j i (record { writes = []; appended = appended_none same; each = λ d k revealed. subst (P j i) (sym (still d k)) (here d revealed) })
-  where
-    still : (d : List Sector) (k : ℕ) → crash_state d [] k ≡ d
-    still d zero = refl
-    still d (suc k) = refl
+pub still_state : (d : List Sector) (k : ℕ) → crash_state d [] k ≡ d
+still_state d zero = refl
+still_state d (suc k) = refl
+
+abbrev pub along_none : (P : ℕ → ℕ → List Sector → Type 0) (j i : ℕ) {a b : DiskState} → RevealsSame a b → ((d : List Sector) → a.contents ≡ Some d → P j i d) → Along P j i j i a b
+along_none P j i same here = record {
+  writes = [];
+  appended = appended_none same;
+  line = λ n. j;
+  step = λ n. i;
+  rise = λ n m le. by_itself j i;
+  first = λ n. by_itself j i;
+  last = λ n. by_itself j i;
+  each = λ d n revealed. subst (P j i) (sym (still_state d n)) (here d revealed);
+}
 
 -- the last crash state
 pub along_last : (P : ℕ → ℕ → List Sector → Type 0) (j i k h : ℕ) {a b : DiskState} (on : Along P j i k h a b) → (e : List Sector) → b.contents ≡ Some e → P (on.line (length on.writes)) (on.step (length on.writes)) e

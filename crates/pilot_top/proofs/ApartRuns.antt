@@ -118,7 +118,9 @@ module _ (m : Machine) (done : Call) {a c : DiskState} (passes : Passes m done a
     pub passes_size : (id : ℕ) → ((i : ℕ) → Resizes id m (stage m done i)) → ((b : BareFile) → settled_shape m id ≡ Some b → LabelsAfterSync a c) → ChangesApart false a c
     passes_size id sizes after = by_writes false passes.writes passes.appended (λ d earlier before syncs revealed made now had have.
         sizes_are_apart syncs (length earlier) d passes.writes false place (reveals_at d revealed) (may d earlier revealed made now) id m
-        (λ k. sizes (passes.steps k)) (λ b is k w here gives. (after b is).after earlier passes.writes before syncs made now had have k w here (no_page w gives)))
+        (λ k. sizes (passes.steps k)) (λ b is k w here gives.
+        let label = (after b is).after earlier passes.writes before syncs made now had have k w here (no_page w gives) in
+        (label.0, label.1, label.2, label.3 d revealed)))
       where
         no_page : (w : DiskWrite) → gives_label w ≡ true → is_page_write w ≡ false
         no_page (Whole sector label page) is = refl

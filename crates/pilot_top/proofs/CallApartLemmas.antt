@@ -2,7 +2,6 @@
 use Rattle.std.proofs.Common.{◌≡◌, ◌≢◌, ◌⊎◌, inl, inr, ℕ, suc, ◌+◌, ◌≤◌, Bool, true, false, List, length, Option, Some, None, refl, sym, ◌∙◌, ap, subst, arith}
 use Rattle.std.specs.Prelude.{Contains, option_map, slice_get}
 use Rattle.std.proofs.lemmas.Bool.{cases_eq}
-use Rattle.std.proofs.lemmas.Option.{same_Some}
 use Rattle.labelled_disk.specs.declared.disk.DiskWrite.{DiskWrite}
 use Rattle.labelled_disk.specs.declared.disk.DiskWrite.TheVariants.{LabelOnly, Page, Whole}
 use Rattle.labelled_disk.specs.CrashState.{crash_state, written}
@@ -13,6 +12,7 @@ use Rattle.labelled_disk.specs.Layout.{data_sectors, first_data}
 use Rattle.labelled_disk.specs.Permitted.{Permitted}
 use Rattle.labelled_disk.specs.Sectors.{Sector}
 use Rattle.labelled_disk.proofs.SectorWrites as w
+use Rattle.label_laws.specs.Cleared.{IsAfterClearing}
 use Rattle.label_laws.specs.Mixed.{gives_label}
 use Rattle.label_laws.specs.Shape.{BareFile, SameShape, bare_file}
 use Rattle.label_laws.proofs.MixedLemmas.{written_long}
@@ -42,6 +42,10 @@ module _ (syncs : List ℕ) (made : ℕ) (d : List Sector) (writes : List DiskWr
 
   abbrev IsApart : ℕ → DiskWrite → Type 0
   IsApart k write = IsChangeApart false syncs made d writes failed k write
+
+  -- a sync came before the write, and sectors were cleared for it by then
+  abbrev pub IsSyncedFor : ℕ → DiskWrite → Type 0
+  IsSyncedFor k write = (s : ℕ) × (s ≤ k) × Contains syncs (made + s) × IsAfterClearing d writes s k write
 
   -- what stands after a write
   after_shape : (k : ℕ) (write : DiskWrite) → slice_get writes k ≡ Some write → (id : ℕ) → option_map bare_file (disk_file false (written write (now k)) id) ≡ settled_shape (place (suc k)) id
@@ -139,7 +143,7 @@ module _ (syncs : List ℕ) (made : ℕ) (d : List Sector) (writes : List DiskWr
               g.2 ∙ ap (λ (n : ℕ). record b { pages = n }) (sym (ap (λ (x : BareFile). x.pages) g.2)) ∙ ap (λ (x : BareFile). record x { pages = size g.0 }) (sym f.2),
             )
 
-        resizes_apart : ((k : ℕ) (write : DiskWrite) → slice_get writes k ≡ Some write → gives_label write ≡ true → (s : ℕ) × (s ≤ k) × Contains syncs (made + s)) → AreApart false syncs made d writes failed
+        resizes_apart : ((k : ℕ) (write : DiskWrite) → slice_get writes k ≡ Some write → gives_label write ≡ true → IsSyncedFor k write) → AreApart false syncs made d writes failed
         resizes_apart synced k write here = by (gives_label write) refl
           where
             by : (x : Bool) → gives_label write ≡ x → IsApart k write
@@ -151,11 +155,12 @@ module _ (syncs : List ℕ) (made : ℕ) (d : List Sector) (writes : List DiskWr
                   s.0,
                   s.1,
                   s.2,
-                  λ other there. subst (IsResize false id (now k)) (same_Some write other (sym here ∙ there)) (resize k write here),
+                  resize k write here,
+                  s.3,
                   λ i other past low there. inr (resize i other there),
                 )))
 
-      pub sizes_are_apart : ((b : BareFile) → settled_shape m id ≡ Some b → (k : ℕ) (write : DiskWrite) → slice_get writes k ≡ Some write → gives_label write ≡ true → (s : ℕ) × (s ≤ k) × Contains syncs (made + s))
+      pub sizes_are_apart : ((b : BareFile) → settled_shape m id ≡ Some b → (k : ℕ) (write : DiskWrite) → slice_get writes k ≡ Some write → gives_label write ≡ true → IsSyncedFor k write)
           → AreApart false syncs made d writes failed
       sizes_are_apart synced = by (settled_shape m id) refl
         where

@@ -19,8 +19,9 @@ use Rattle.volume_root.specs.declared.root.Root.{Root}
 use Rattle.running_words.specs.Running.{IsRunning}
 use Rattle.pilot_engine.specs.declared.session.Session.{Session}
 use Rattle.pilot_engine.specs.EndLaws.{blameless_at_end}
+use Rattle.pilot_engine.specs.Ending.{AccountsAtEnd}
 use Rattle.pilot_engine.specs.Opening.{IsUnset, LeavesOpen}
-use Rattle.pilot_engine.specs.Reasons.{NeverBlamesEnd, SeesHome}
+use Rattle.pilot_engine.specs.Reasons.{NeverBlamesEnd}
 use Rattle.pilot_engine.proofs.ShutLemmas.{nothing_on}
 use Rattle.pilot_engine.proofs.SparingLemmas.{spares_same}
 use Rattle.pilot_top.specs.Ended.{EndsAs, StopsEnding, WritesEnd}
@@ -43,12 +44,11 @@ module _ {T : Type 0} (r : Result T Halt) (h : Halt) (was : r ≡ Err h) where
   of_halt P holds = subst (λ (x : Result T Halt). IfErr x P) was holds
 
   -- what the end of a session shows has its reason
-  module _ {D A : Type 0} {G : Ghosts D} (session : Session D A G) (disk : DiskState) (reasons : (o : InitialState) → KeepsOn o session.core.filer → IfErr r (ShowsReason o (state session.core).layout disk))
-      (sees : (o : InitialState) → KeepsOn o session.core.filer → SeesHome o session.core → IfErr r (NeverBlamesEnd o disk)) where
+  module _ {D A : Type 0} {G : Ghosts D} (session : Session D A G) (disk : DiskState) (accounts : (o : InitialState) → KeepsOn o session.core.filer → AccountsAtEnd o session disk r) where
     pub end_reasoned : (e : Evidence) → h ≡ halt.Damaged e → FromEachInitialState session disk e
     end_reasoned e = reason_halted session session refl (goes_nowhere session) disk e h (λ o keeps not_older. (
-      of_halt (ShowsReason o (state session.core).layout disk) (reasons o keeps),
-      λ seen. blameless_at_end o disk h (of_halt (NeverBlamesEnd o disk) (sees o keeps seen)),
+      of_halt (ShowsReason o (state session.core).layout disk) ((accounts o keeps).reasons),
+      λ seen. blameless_at_end o disk h (of_halt (NeverBlamesEnd o disk) ((accounts o keeps).sees seen)),
     ))
 
 -- the end of a session halted

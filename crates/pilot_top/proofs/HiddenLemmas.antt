@@ -1,5 +1,5 @@
 -- A file that no window shows: no call makes a page of it dirty, and it stays so until a line shows it.
-use Rattle.std.proofs.Common.{◌≡◌, ◌≢◌, inl, inr, ℕ, ◌≤◌, false, List, [], ◌∷◌, ◌++◌, Some, sym, ◌∙◌, arith}
+use Rattle.std.proofs.Common.{◌≡◌, ◌≢◌, inl, inr, ℕ, ◌≤◌, false, List, [], ◌∷◌, ◌++◌, Ok, Some, sym, ◌∙◌, arith}
 use Rattle.std.proofs.lemmas.Bool.{eq-eqb, true≢false}
 use Rattle.std.proofs.lemmas.Option.{none-some, same_Some}
 use Rattle.labelled_disk.specs.declared.disk.Disk.{Ghosts}
@@ -18,10 +18,11 @@ use Rattle.file_manager.specs.Creating.{IsMonotone, next_id}
 use Rattle.file_manager.specs.Reasons.{InitialState, IsNotOlder, KeepsOn, giving, initial_state}
 use Rattle.fault_core.specs.Core.{state}
 use Rattle.space_calls.specs.FilesLaws.{HaveLower, later_on, on_wider, shown_on}
-use Rattle.space_calls.specs.Sees.{AreOn, SeesFiles, StillOnOr}
+use Rattle.space_calls.specs.Sees.{AreOn, StillOnOr}
 use Rattle.pilot_engine.specs.declared.session.Session.{Session}
-use Rattle.pilot_engine.specs.Reasons.{FromStart, IsBegun}
+use Rattle.pilot_engine.specs.Reasons.{IsBegun}
 use Rattle.pilot_engine.specs.Showing.{DirtiesShown, dirties, mapped_by, maps}
+use Rattle.pilot_engine.specs.Starting.{AccountsAtStart}
 use Rattle.pilot_top.specs.Sparing.{Hides, maps_file, other_file}
 use Rattle.pilot_top.proofs.ReasonLemmas.{not_older_then}
 
@@ -67,13 +68,12 @@ module _ {D A : Type 0} {G : Ghosts D} (old new : Session D A G) (c : Call) (id 
 
 -- a session that started on a disk whose file map was in form shows no file
 pub hidden_first : {D A : Type 0} {G : Ghosts D} (s : Session D A G) (disk : DiskState)
-    → ((d : List Sector) (named : Triples) (ws : List DiskWrite) → IsBegun d named ws disk → FromStart d named ws (λ o. KeepsOn o s.core.filer))
-    → ((d : List Sector) (named : Triples) (ws : List DiskWrite) → IsBegun d named ws disk → SeesFiles no_page s.core)
+    → ((d : List Sector) (named : Triples) (ws : List DiskWrite) → IsBegun d named ws disk → AccountsAtStart d named ws (Ok s))
     → ((d : List Sector) → disk.contents ≡ Some d → IsMonotone (root_in (root_page d)) s.volume.root)
     → (d : List Sector) (named : Triples) (ws : List DiskWrite) → IsBegun d named ws disk → (id : ℕ) → Hides s id
-hidden_first s disk keeps sees monotone d named ws begun id =
-    let kept = keeps d named ws begun in
-    let seen = sees d named ws begun in
+hidden_first s disk accounts monotone d named ws begun id =
+    let kept = (accounts d named ws begun).keeps_to in
+    let seen = (accounts d named ws begun).sees in
     let up = monotone d begun.contents in
     record {
       initial_state = initial_state d named (ws ++ (root_write kept.0 ∷ []));

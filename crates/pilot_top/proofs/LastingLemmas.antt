@@ -23,5 +23,5 @@ waited_for_lasts m lines d old new k i j made leads within cuts revealed is belo
       sync.3,
       λ syncs s l e have since few between cut id page f bytes file forced.
           (cuts.files at made syncs is have l s e few between cut).bytes id page f bytes file (λ q low high.
-          forced (on.line q) (on.step q) (later_line j (on.line n) (on.step n) (on.line q) (on.step q) sync.2 (on.rise n q (omega (arith, since, low)))) (on.rise q l high) (on.each d q revealed).within),
+          forced (on.line q) (on.step q) (later_line j (on.line n) (on.step n) (on.line q) (on.step q) sync.2.0 (on.rise n q (omega (arith, since, low)))) (on.rise q l high) (on.each d q revealed).within),
     )

@@ -26,7 +26,8 @@ use Rattle.running_words.specs.Session.{WroteIn}
 use Rattle.pilot_engine.specs.Closing.{WroteOn}
 use Rattle.pilot_engine.specs.Opening.{WroteFirst, in_use}
 use Rattle.pilot_engine.specs.Writing.{CallMay, Written}
-use Rattle.pilot_top.specs.Parts.{InParts, LineMay, LineWrote, NextMay, PartMay, StartMay}
+use Rattle.pilot_top.specs.LineWrites.{LineMay, StartMay}
+use Rattle.pilot_top.specs.Parts.{InParts, LineWrote, NextMay, PartMay}
 use Rattle.pilot_top.proofs.PartLemmas.{parts_one, parts_then, parts_wider}
 
 -- ---- Lines.

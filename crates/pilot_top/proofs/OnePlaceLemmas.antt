@@ -12,10 +12,15 @@ use Rattle.labelled_disk.specs.Sectors.{Sector}
 use Rattle.labelled_disk.specs.State.{DiskState}
 use Rattle.labelled_disk.specs.Syncing.{RevealsSyncs}
 use Rattle.label_laws.specs.Shape.{bare_file}
+use Rattle.label_laws.proofs.PermittedLemmas.{by_each}
 use Rattle.cut_laws.specs.Cut.{unit, AtSome, IsCut}
+use Rattle.cut_laws.specs.NewPages.{AddsZeros, HasOwnNewPages, HasPlainFree}
 use Rattle.cut_laws.specs.OneCrashState.{AreFilesWhole, FilesOfOneCrashState}
+use Rattle.cut_laws.proofs.AddedZeroLemmas.{pages_are_added_as_zeros}
 use Rattle.cut_laws.proofs.ApartLemmas.{changes_apart}
 use Rattle.cut_laws.proofs.ChangeRowLemmas.{apart_are_changes_apart}
+use Rattle.cut_laws.proofs.NewPageLemmas.{new_pages_are_own}
+use Rattle.cut_laws.proofs.PlainFreeLemmas.{plain_free_stays}
 use Rattle.cut_laws.proofs.UnitLemmas.{same_units}
 use Rattle.cut_laws.proofs.WholeLemmas.{right_is_whole}
 use Rattle.flat_machine.specs.After.{TraceLine}
@@ -30,7 +35,7 @@ use Rattle.pilot_top.specs.OnePlace.{ChangesApart, CutsHaveFiles, ForcesIfThere,
 use Rattle.pilot_top.specs.Parts.{RaisesRoot}
 use Rattle.pilot_top.proofs.ForceLemmas.{forced_on}
 use Rattle.pilot_top.proofs.GivenLemmas.{above_files, numbers_of_one}
-use Rattle.pilot_top.proofs.RaisedLemmas.{cuts_go_on}
+use Rattle.pilot_top.proofs.RaisedLemmas.{cuts_go_on, permitted_each}
 use Rattle.pilot_top.proofs.RevealedShapes.{reveals_shapes}
 
 -- where the writes are revealed, the syncs are
@@ -76,8 +81,9 @@ module _ (m : Machine) (lines : List TraceLine) (d : List Sector) {a c : DiskSta
         sym unit_there.4
         ∙ ap (unit u) (same_Some unit_there.2 (map byte bytes) (sym unit_there.3 ∙ forced_if_there id page bytes some.0 unit_there.0 (each some.0 some.1 some.2) unit_there.1))))
 
-    of_one_place : AtSome s k (λ i. HasCounterAt m lines (states.line i) (counter_of e)) → IsAboveFiles e → IsOfOnePlace m lines d states.writes states.line states.step s k e
-    of_one_place counter above = record {
+    of_one_place : AtSome s k (λ i. HasCounterAt m lines (states.line i) (counter_of e)) → IsAboveFiles e → (HasPlainFree d → (id : ℕ) → HasOwnNewPages false id d states.writes s k e)
+        → ((id : ℕ) → AddsZeros false id d states.writes) → IsOfOnePlace m lines d states.writes states.line states.step s k e
+    of_one_place counter above own zeros = record {
       place =
           let some = one.shapes in
           (some.0, some.1, some.2, λ id. some.3 id ∙ reveals_shapes (now some.0) (place some.0) (reveals some.0) id);
@@ -85,6 +91,8 @@ module _ (m : Machine) (lines : List TraceLine) (d : List Sector) {a c : DiskSta
       units = one.pages;
       counter = counter;
       above = above;
+      own = own;
+      zeros = zeros;
     }
 
 -- the changes of its files are apart
@@ -96,10 +104,15 @@ cuts_have_files m lines d {a = a} {c = c} states revealed known changes serial l
   files = λ at made syncs is have k s e few since cut.
       let before = known made syncs is have in
       let wrote : c.writes ≡ Some (made ++ at.writes) = at.appended.revealed ∙ ap (option_map (λ (xs : List DiskWrite). xs ++ at.writes)) is in
-      let apart = apart_are_changes_apart false syncs (length made) d at.writes true (changes.apart d made at.writes before.0 syncs revealed is wrote before.1 have) in
+      let rows = changes.apart d made at.writes before.0 syncs revealed is wrote before.1 have in
+      let apart = apart_are_changes_apart false syncs (length made) d at.writes true rows in
+      let permitted = by_each d at.writes (permitted_each d revealed lawful made at.writes is wrote) in
+      let files : (j : ℕ) → j ≤ length at.writes → AreFilesWhole false (crash_state d at.writes j) = λ j low. whole m lines d at revealed j in
       let order = since.by_then in
-      let one = changes_apart false d (length made) at.writes syncs (λ j low. whole m lines d at revealed j) apart k s e few since cut in
+      let one = changes_apart false d (length made) at.writes syncs files apart k s e few since cut in
       of_one_place m lines d at revealed s k e one (has_counter m lines d at revealed s k e (omega (arith, order)) few cut)
-      (above_files d at.writes (length made) syncs apart k s few since (λ i. (reveals m lines d at revealed i).right) m.serial (λ i. (at.each d i revealed).same_serial) e cut one.shapes);
+      (above_files d at.writes (length made) syncs apart k s few since (λ i. (reveals m lines d at revealed i).right) m.serial (λ i. (at.each d i revealed).same_serial) e cut one.shapes)
+      (λ plain id. new_pages_are_own false d (length made) at.writes syncs true permitted files rows k s e few since cut (plain_free_stays d at.writes permitted plain s) id)
+      (pages_are_added_as_zeros false d at.writes permitted files);
   counter = cuts_go_on m lines d states revealed serial lawful raises;
 }

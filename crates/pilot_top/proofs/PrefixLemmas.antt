@@ -1,5 +1,5 @@
 -- Lines that were read, and the machine after the last of a trace.
-use Rattle.std.proofs.Common.{◌≡◌, ◌≢◌, inl, inr, ℕ, zero, suc, true, List, [], ◌∷◌, ◌++◌, length, Option, Some, None, refl, sym, ap, ◌∙◌, subst, append-nil}
+use Rattle.std.proofs.Common.{◌≡◌, ◌≢◌, inl, inr, ℕ, zero, suc, List, [], ◌∷◌, ◌++◌, length, Option, Some, None, refl, sym, ap, ◌∙◌, subst, append-nil}
 use Rattle.std.proofs.lemmas.Bool.{true≢false}
 use Rattle.std.proofs.lemmas.Option.{none-some, same_Some}
 use Rattle.std.specs.Io.KnownBytes.{Consumes}
@@ -41,12 +41,16 @@ read_prefix x b p lines read = from b read.took p.stopped read.goes_on
 
 -- Lines that don't wait.
 
-none_waits : (m : Machine) (j : ℕ) → WaitsAt m [] j → ⊥
-none_waits m j waits = none-some waits.0 waits.1
-
 one_waits_not : (m : Machine) (line : TraceLine) → (WaitsLine m line → ⊥) → (j : ℕ) → WaitsAt m (line ∷ []) j → ⊥
 one_waits_not m line not zero waits = not (subst (WaitsLine m) (sym (same_Some line waits.0 waits.1)) waits.2)
 one_waits_not m line not (suc j) waits = none-some waits.0 waits.1
+
+no_halt_waits : (m : Machine) → WaitsLine m (Some call.Halt) → ⊥
+no_halt_waits m (inl waiting, fits) = true≢false (sym waiting)
+no_halt_waits m (inr closes, fits) = cc closes
+
+pub halt_waits_not : (m : Machine) (j : ℕ) → WaitsAt m (Some call.Halt ∷ []) j → ⊥
+halt_waits_not m = one_waits_not m (Some call.Halt) (no_halt_waits m)
 
 -- The end of a trace.
 
@@ -60,26 +64,22 @@ module _ (m : Machine) (x : List ℕ) (b t u : Option (List ℕ)) (p : Progress)
   after_last : (line : TraceLine) → reading x ≡ going.lines ++ line ∷ [] → after m (reading x) (length (reading x)) ≡ next_line (last_of m going.lines) line
   after_last line are = ap (λ (l : List TraceLine). after m l (length l)) are ∙ after_then m going.lines (line ∷ [])
 
-  pub End-after : (how : End) (c : Option (List ℕ)) (q : Progress) → EndsTrace how b c p q → after m (reading x) (length (reading x)) ≡ ended_by (last_of m going.lines) how
-  End-after end.Close c q ended = after_last (Some call.Close) (let all = HasRead-last (Some x) b c p q going.lines (Some call.Close) going.read ended.0 ended.1 refl in all.items_are)
-  End-after end.Halt c q ended = after_last (Some call.Halt) (let all = HasRead-last (Some x) b c p q going.lines (Some call.Halt) going.read ended.0 ended.1 refl in all.items_are)
-  End-after end.Trace c q (inl ended) =
-      let all = HasRead-end (Some x) b c p going.lines going.read ended.0 ended.1 ended.2 ended.3 in
-      ap (λ (l : List TraceLine). after m l (length l)) all.items_are
-  End-after end.Trace c q (inr ended) =
-      let all = rw ended.0 at going.read.goes_on in
-      ap (λ (l : List TraceLine). after m l (length l)) all.0.items_are
+  -- the line that closes the session comes after those that were answered
+  pub closed_tail : (c : Option (List ℕ)) (q : Progress) → EndsTrace end.Close b c p q → reading x ≡ going.lines ++ Some call.Close ∷ []
+  closed_tail c q ended = let all = HasRead-last (Some x) b c p q going.lines (Some call.Close) going.read ended.0 ended.1 refl in all.items_are
 
-  -- after the lines that were answered there is the one that ends the trace, or none, and none that waits
-  pub ended_tail : (how : End) (c : Option (List ℕ)) (q : Progress) → EndsTrace how b c p q → (tail : List TraceLine) × (reading x ≡ going.lines ++ tail) × ((n : Machine) (j : ℕ) → WaitsAt n tail j → ⊥)
-  ended_tail end.Close c q ended =
-      (Some call.Close ∷ [], (let all = HasRead-last (Some x) b c p q going.lines (Some call.Close) going.read ended.0 ended.1 refl in all.items_are), λ n. one_waits_not n (Some call.Close) (λ w. true≢false (sym w.0)))
-  ended_tail end.Halt c q ended =
-      (Some call.Halt ∷ [], (let all = HasRead-last (Some x) b c p q going.lines (Some call.Halt) going.read ended.0 ended.1 refl in all.items_are), λ n. one_waits_not n (Some call.Halt) (λ w. true≢false (sym w.0)))
-  ended_tail end.Trace c q (inl ended) =
-      ([], (let all = HasRead-end (Some x) b c p going.lines going.read ended.0 ended.1 ended.2 ended.3 in all.items_are ∙ sym (append-nil going.lines)), none_waits)
-  ended_tail end.Trace c q (inr ended) =
-      ([], (let all = rw ended.0 at going.read.goes_on in all.0.items_are ∙ sym (append-nil going.lines)), none_waits)
+  -- so does the line `halt`, and else none does
+  pub halted_tail : (c : Option (List ℕ)) (q : Progress) → EndsTrace end.Halt b c p q → reading x ≡ going.lines ++ Some call.Halt ∷ []
+  halted_tail c q ended = let all = HasRead-last (Some x) b c p q going.lines (Some call.Halt) going.read ended.0 ended.1 refl in all.items_are
+
+  pub trace_tail : (c : Option (List ℕ)) (q : Progress) → EndsTrace end.Trace b c p q → reading x ≡ going.lines
+  trace_tail c q (inl ended) = let all = HasRead-end (Some x) b c p going.lines going.read ended.0 ended.1 ended.2 ended.3 in all.items_are
+  trace_tail c q (inr ended) = let all = rw ended.0 at going.read.goes_on in all.0.items_are
+
+  pub End-after : (how : End) (c : Option (List ℕ)) (q : Progress) → EndsTrace how b c p q → after m (reading x) (length (reading x)) ≡ ended_by (last_of m going.lines) how
+  End-after end.Close c q ended = after_last (Some call.Close) (closed_tail c q ended)
+  End-after end.Halt c q ended = after_last (Some call.Halt) (halted_tail c q ended)
+  End-after end.Trace c q ended = ap (λ (l : List TraceLine). after m l (length l)) (trace_tail c q ended)
 
   -- what an end of the session leaves
   module _ (disk : DiskState) (stop : (e : List Sector) → disk.contents ≡ Some e → RevealsSettled e (last_of m going.lines)) where

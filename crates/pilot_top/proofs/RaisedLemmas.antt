@@ -88,6 +88,13 @@ module _ (d : List Sector) (writes : List DiskWrite) (some : 0 < length d) (seri
         by : (s t m n : ℕ) → s ≡ t → s * 2 ^ 32 + m ≤ t * 2 ^ 32 + n → m ≤ n
         by s t m n same le = let e = ap (λ (x : ℕ). x * 2 ^ 32) same in omega (arith, e, le)
 
+-- each write of a run is permitted where it is made
+pub permitted_each : (d : List Sector) {a c : DiskState} → a.contents ≡ Some d → Lawfully a c → (made writes : List DiskWrite) → a.writes ≡ Some made → c.writes ≡ Some (made ++ writes)
+    → (j : ℕ) (w : DiskWrite) → slice_get writes j ≡ Some w → Permitted (crash_state d writes j) w
+permitted_each d revealed lawful made writes is wrote =
+    subst (λ (ws : List DiskWrite). (j : ℕ) (w : DiskWrite) → slice_get ws j ≡ Some w → Permitted (crash_state d ws j) w) (same_writes lawful.writes made writes lawful.appended is wrote)
+    (λ j w here. lawful.permitted d j w revealed here)
+
 -- what a run writes
 pub cuts_go_on : (m : Machine) (lines : List TraceLine) (d : List Sector) {a c : DiskState} (states : CrashStates m lines a c) → a.contents ≡ Some d → m.serial ≡ serial_of d → Lawfully a c
     → (last : Root) × RaisesRoot (root_in (root_page d)) last a c → (made : List DiskWrite) → a.writes ≡ Some made
@@ -100,7 +107,6 @@ cuts_go_on m lines d {a = a} {c = c} states revealed serial lawful raises made i
     let rises = counters_go_on d states.writes (omega (arith, count)) (serial_of d) on.roots.part on.roots.rise
     (subst (λ (ws : List DiskWrite). (j : ℕ) (w : DiskWrite) → slice_get ws j ≡ Some w → RootMay (serial_of d) (on.roots.part j) (crash_state d ws j) w) (same_writes on.roots.writes made states.writes on.roots.appended is wrote)
     (λ j w here. on.roots.each d made j w revealed is here))
-    (subst (λ (ws : List DiskWrite). (j : ℕ) (w : DiskWrite) → slice_get ws j ≡ Some w → Permitted (crash_state d ws j) w) (same_writes lawful.writes made states.writes lawful.appended is wrote)
-    (λ j w here. lawful.permitted d j w revealed here))
+    (permitted_each d revealed lawful made states.writes is wrote)
     (on.from 0) (λ i. (states.each d i revealed).same_serial ∙ serial) s number.0 number.1 in
     subst (λ (n : ℕ). counter_of (crash_state d states.writes s) ≤ n) (sym number.3.1) rises

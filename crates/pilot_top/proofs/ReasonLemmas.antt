@@ -1,5 +1,5 @@
 -- The reason of what is reported of damage, and what is not revealed, from a session back to the disk at the start.
-use Rattle.std.proofs.Common.{◌≡◌, ℕ, List, [], ◌∷◌, ◌++◌, length, Option, Some, refl, sym, ap, ◌∙◌, subst, arith}
+use Rattle.std.proofs.Common.{◌≡◌, ℕ, List, [], ◌∷◌, ◌++◌, length, Option, Some, Ok, Err, refl, sym, ap, ◌∙◌, subst, arith}
 use Rattle.labelled_disk.specs.declared.disk.Disk.{Ghosts}
 use Rattle.labelled_disk.specs.declared.disk.DiskWrite.{DiskWrite}
 use Rattle.labelled_disk.specs.declared.evidence.Evidence.{Evidence}
@@ -23,7 +23,8 @@ use Rattle.volume_root.specs.RootPage.{root_in, root_write}
 use Rattle.space_calls.specs.FilesLaws.{on_wider}
 use Rattle.space_calls.specs.Sees.{SeesFiles}
 use Rattle.pilot_engine.specs.declared.session.Session.{Session}
-use Rattle.pilot_engine.specs.Reasons.{FromStart, IsBegun, IsBlameless, SeesHome, ShowsReasonAtStart, NeverBlamesFiles, NeverBlamesFilesAtStart}
+use Rattle.pilot_engine.specs.Reasons.{IsBegun, IsBlameless, SeesHome, ShowsReasonAtStart, NeverBlamesFiles, NeverBlamesFilesAtStart}
+use Rattle.pilot_engine.specs.Starting.{AccountsAtStart}
 use Rattle.pilot_engine.specs.declared.fault.StartFault.{StartFault}
 use Rattle.pilot_engine.specs.declared.fault.StartFault.TheVariants as start_fault
 use Rattle.pilot_top.specs.Headline.{RevealsDamage}
@@ -88,27 +89,26 @@ module _ {D A : Type 0} {G : Ghosts D} where
   -- a session that started keeps to what stood when it did, and sees the space tables
   pub reason_started : (session : Session D A G) (before after : DiskState) (e : Evidence) → IsLayout (state session.core).layout → (state session.core).layout.sectors ≡ before.sectors
       → ((d : List Sector) → before.contents ≡ Some d → length d ≡ before.sectors)
-      → ((d : List Sector) (named : Triples) (ws : List DiskWrite) → IsBegun d named ws before → FromStart d named ws (λ o. KeepsOn o session.core.filer))
-      → ((d : List Sector) (named : Triples) (ws : List DiskWrite) → IsBegun d named ws before → SeesFiles no_page session.core)
+      → ((d : List Sector) (named : Triples) (ws : List DiskWrite) → IsBegun d named ws before → AccountsAtStart d named ws (Ok session))
       → ((d : List Sector) → before.contents ≡ Some d → IsMonotone (root_in (root_page d)) session.volume.root)
       → FromEachInitialState session after e → FromInitialState before after e
-  reason_started session before after e accepted size whole keeps sees monotone from d named ws begun =
+  reason_started session before after e accepted size whole accounts monotone from d named ws begun =
       let same : (state session.core).layout ≡ layout_of (length d) = accepted.1 ∙ ap layout_of (size ∙ sym (whole d begun.contents)) in
-      let kept = keeps d named ws begun in
+      let kept = (accounts d named ws begun).keeps_to in
       let o = initial_state d named (ws ++ (root_write kept.0 ∷ [])) in
       let on = monotone d begun.contents in
       let there = from o kept.1 (record { monotone = on; next = on.0 }) in
-      (kept.0, (subst (λ (l : Layout). HasReason o l after e) same there.0, there.1 (home_seen o session.core (sees d named ws begun))))
+      (kept.0, (subst (λ (l : Layout). HasReason o l after e) same there.0, there.1 (home_seen o session.core ((accounts d named ws begun).sees))))
 
 -- no session started
-pub reason_refused : (before after : DiskState) (f : StartFault)
-    → ((d : List Sector) (named : Triples) (ws : List DiskWrite) → IsBegun d named ws before → FromStart d named ws (λ o. ShowsReasonAtStart o (layout_of (length d)) after f))
-    → ((d : List Sector) (named : Triples) (ws : List DiskWrite) → IsBegun d named ws before → NeverBlamesFilesAtStart f)
-    → (e : Evidence) → f ≡ start_fault.Halt (halt.Damaged e) → FromInitialState before after e
-reason_refused before after f shows never_blames e is d named ws begun =
-    let shown = shows d named ws begun in
+pub reason_refused : {D A : Type 0} {G : Ghosts D} (before : DiskState) (disk : D) (f : StartFault)
+    → ((d : List Sector) (named : Triples) (ws : List DiskWrite) → IsBegun d named ws before → AccountsAtStart {D = D} {A = A} {G = G} d named ws (Err (f, disk)))
+    → (e : Evidence) → f ≡ start_fault.Halt (halt.Damaged e) → FromInitialState before (G.state disk) e
+reason_refused {G = G} before disk f accounts e is d named ws begun =
+    let after = G.state disk in
+    let shown = (accounts d named ws begun).reasons in
     let o = initial_state d named (ws ++ (root_write shown.0 ∷ [])) in
-    let blameless : NeverBlamesFiles (halt.Damaged e) = subst NeverBlamesFilesAtStart is (never_blames d named ws begun) in (
+    let blameless : NeverBlamesFiles (halt.Damaged e) = subst NeverBlamesFilesAtStart is ((accounts d named ws begun).sees) in (
       shown.0,
       (
         subst (λ (why : StartFault). ShowsReasonAtStart o (layout_of (length d)) after why) is shown.1,

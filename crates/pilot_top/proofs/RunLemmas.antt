@@ -1,10 +1,11 @@
 -- A run whose session started, or did not.
-use Rattle.std.proofs.Common.{◌≡◌, ◌≢◌, ◌⊎◌, inl, inr, ℕ, ◌+◌, ◌<◌, true, List, [], ◌∷◌, length, Option, Some, refl, sym, ap, ◌∙◌, subst, arith, append-nil}
+use Rattle.std.proofs.Common.{◌≡◌, ◌≢◌, ◌⊎◌, inl, inr, ℕ, ◌<◌, true, List, [], ◌∷◌, length, Option, Some, refl, sym, ap, ◌∙◌, subst, arith, append-nil}
 use Rattle.std.specs.List.{list_any}
 use Rattle.labelled_disk.specs.declared.evidence.Evidence.{Evidence}
 use Rattle.labelled_disk.specs.declared.evidence.Halt.TheVariants as halt
 use Rattle.labelled_disk.specs.declared.layout.RootFault.{RootFault}
 use Rattle.labelled_disk.specs.declared.layout.RootFault.TheVariants as fault
+use Rattle.labelled_disk.specs.Permitted.{Permitted}
 use Rattle.labelled_disk.specs.Sectors.{Sector}
 use Rattle.labelled_disk.specs.State.{DiskState}
 use Rattle.flat_machine.specs.After.{TraceLine}
@@ -15,17 +16,18 @@ use Rattle.volume_root.specs.Flag.{IsRefused}
 use Rattle.pilot_engine.specs.declared.fault.StartFault.{StartFault}
 use Rattle.pilot_engine.specs.declared.fault.StartFault.TheVariants as start_fault
 use Rattle.pilot_engine.specs.Opening.{IsDiskFault, IsEarly, IsOutside, IsRightRefusal, IsSoAtStart, LeavesOpenAtStart}
+use Rattle.pilot_engine.specs.Writing.{Written}
 use Rattle.pilot_top.specs.Headline.{Answering, EndsEarly, HasWritten, IsLeftOpen, LeadsTo, Run, RevealsDamage}
 use Rattle.pilot_top.specs.Last.{last_line, Puts}
 use Rattle.pilot_top.specs.CrashStates.{CrashStates}
+use Rattle.pilot_top.specs.LineWrites.{StartMay}
 use Rattle.pilot_top.specs.Replied.{Replied}
 use Rattle.pilot_top.specs.Stopping.{StopsAs}
 use Rattle.pilot_top.specs.declared.last.Cause.TheVariants as cause
 use Rattle.pilot_top.specs.declared.status.Status.{Status}
 use Rattle.pilot_top.specs.declared.status.Status.TheVariants as status
 use Rattle.pilot_top.proofs.AlongLemmas.{by_itself}
-use Rattle.pilot_top.proofs.PlaceLemmas.{leads_after, leads_before, none_leads}
-use Rattle.pilot_top.proofs.WaitedLemmas.{waited_none}
+use Rattle.pilot_top.proofs.PlaceLemmas.{leads_before, leads_started, none_leads}
 use Rattle.pilot_top.proofs.PutLemmas.{damage_alone, put_alone}
 use Rattle.pilot_top.proofs.SuitLemmas.{none_first}
 
@@ -58,15 +60,11 @@ answering_less status.Damaged m b left t took failed has then less is = absurd i
 answering_less status.Unfit m b left t took failed has then less is = absurd is
 
 -- a start, and then a session
-started_leads : (d : List Sector) (lines : List TraceLine) {a b c : DiskState} (k i : ℕ) → CrashStates (start d) [] a b → LeadsTo (start d) lines b c k i → LeadsTo (start d) lines a c k i
-started_leads d lines {a = a} {c = c} k i from leads =
-    subst (λ (n : ℕ). LeadsTo (start d) lines a c n i) (let z : 0 + k ≡ k = omega arith in z) (leads_after (start d) [] lines k i from (waited_none (start d) [] from.writes from.line a c) leads)
-
 pub run_started : (s : Status) (d : List Sector) (b t : List ℕ) (left took : Option (List ℕ)) (failed : Type 0) (before mid disk : DiskState) → s ≢ status.NotOpened → s ≢ status.NoMemory
-    → CrashStates (start d) [] before mid → Answering s (start d) b left t took failed (LeadsTo (start d) (reading b) mid disk) → Run s d b left t took failed before disk
-run_started s d b t left took failed before mid disk opened memory from is =
+    → CrashStates (start d) [] before mid → Written (λ e w. Permitted e w × StartMay w) before mid → Answering s (start d) b left t took failed (LeadsTo (start d) (reading b) mid disk) → Run s d b left t took failed before disk
+run_started s d b t left took failed before mid disk opened memory from wrote is =
     run_of s d b t left took failed before disk opened memory
-    (answering_less s (start d) b left t took failed (LeadsTo (start d) (reading b) mid disk) (LeadsTo (start d) (reading b) before disk) (λ k i leads. started_leads d (reading b) k i from leads) is)
+    (answering_less s (start d) b left t took failed (LeadsTo (start d) (reading b) mid disk) (LeadsTo (start d) (reading b) before disk) (λ k i leads. leads_started (start d) (reading b) k i from wrote leads) is)
 
 -- Why no session started, and the status.
 

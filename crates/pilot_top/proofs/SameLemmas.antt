@@ -29,6 +29,7 @@ module _ {mid new : DiskState} (same : RevealsSame mid new) where
     (leads.0.0, λ e revealed. leads.0.1 e (sym same.contents ∙ revealed)),
     along_same (IsCrashState m lines) 0 0 k i same leads.1,
     waited_later m lines k leads.1.writes leads.1.line old went leads.2,
+    leads.3,
   )
 
   pub crash_states_same : {old : DiskState} {m : Machine} {lines : List TraceLine} → CrashStates m lines old mid → CrashStates m lines old new

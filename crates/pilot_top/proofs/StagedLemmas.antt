@@ -10,8 +10,10 @@ use Rattle.labelled_disk.specs.State.{DiskState}
 use Rattle.swap_units.specs.declared.interval.Interval.{Interval}
 use Rattle.file_manager.specs.declared.volume.Volume.{Volume}
 use Rattle.flat_machine.specs.declared.call.Call.{Call}
+use Rattle.flat_machine.specs.declared.call.Call.TheVariants.{Close}
 use Rattle.flat_machine.specs.After.{TraceLine, after, next_line}
 use Rattle.flat_machine.specs.Machine.{Machine}
+use Rattle.flat_machine.specs.Next.{next}
 use Rattle.flat_machine.specs.Settled.{Agrees, settled}
 use Rattle.flat_machine.specs.Start.{start}
 use Rattle.flat_machine.proofs.StartLemmas.{start_agrees}
@@ -19,14 +21,14 @@ use Rattle.volume_root.specs.Sound.{Sound}
 use Rattle.session_words.specs.StandsFor.{RevealsSettled}
 use Rattle.session_words.proofs.LooseLemmas.{stands_is_settled}
 use Rattle.session_words.proofs.SettledLemmas.{settled_is_revealed}
-use Rattle.pilot_engine.specs.Closing.{IsStop, Throughout}
+use Rattle.pilot_engine.specs.Closing.{HasShut, IsStop, Throughout}
 use Rattle.pilot_engine.specs.Opening.{KeepsFiles}
 use Rattle.filer_kernel.specs.View.{View}
 use Rattle.running_words.specs.Running.{IsRunning, exactly}
 use Rattle.running_words.specs.Stages.{Passes}
 use Rattle.pilot_top.specs.CrashStates.{Along, IsBy, IsCrashState, CrashStates, LineCrashStates, staged, step_of, steps_of}
 use Rattle.pilot_top.proofs.NumberLemmas.{after_serial, counter_before, counter_after}
-use Rattle.pilot_top.proofs.AlongLemmas.{by_equal, by_most, along_less, along_none, along_shifted, along_then, along_throughout, along_wider}
+use Rattle.pilot_top.proofs.AlongLemmas.{by_equal, by_itself, by_most, along_less, along_none, along_shifted, along_then, along_throughout, along_wider}
 
 -- disks that reveal what they hold are in form
 abbrev pub AreInForm : DiskState → Type 0
@@ -174,15 +176,27 @@ stands_revealed m {v = v} is form d revealed =
       honest = λ set. absurd (let unset = here.root.open_flag in omega (arith, set, unset));
     }
 
--- and nothing is written
-pub from_rest : (m : Machine) (lines : List TraceLine) {v : View} {kept : List Interval} {count : ℕ} {volume : Volume} → IsRunning v kept count volume m → AreInForm v.disk → CrashStates m lines v.disk v.disk
-from_rest m lines is form = crash_states_before m [] lines (along_none (IsCrashState m []) 0 0 (record { contents = refl; writes = refl }) (λ d revealed. stands_revealed m is form d revealed))
-
 -- a session is ended
 pub from_end : (m : Machine) {a b : DiskState} → Throughout (IsStop m) a b → CrashStates m [] a b
 from_end m all = along_throughout (IsCrashState m []) 0 0 (record { writes = all.writes; appended = all.appended; each = λ d k revealed. let at = all.each d k revealed in record { within = omega arith; revealed = at.revealed; same_serial = at.same_serial; counter = inl at.same_counter; honest = at.honest } })
 
+-- it was closed
+pub shut_revealed : (m : Machine) {disk : DiskState} → HasShut m disk → (d : List Sector) → disk.contents ≡ Some d → IsCrashState (next m Close) [] 0 0 d
+shut_revealed m shut d revealed =
+    let is = shut.reveals.shut in
+    subst (λ (e : List Sector). IsCrashState (next m Close) [] 0 0 e) (same_Some shut.reveals.sectors d (sym shut.reveals.revealed ∙ revealed)) (record {
+      within = omega arith;
+      revealed = is.revealed;
+      same_serial = is.same_serial;
+      counter = inl is.same_counter;
+      honest = λ set. is.sound;
+    })
+
 -- One line.
+
+-- the line `close`, by which a session is ended
+pub line_close : (m : Machine) {a b : DiskState} → Throughout (IsStop m) a b → LineCrashStates m (Some Close) a b
+line_close m stops = along_wider (IsCrashState m (Some Close ∷ [])) 0 0 0 0 0 0 0 1 (by_itself 0 0) (inr (refl, omega arith)) (from_prefix m [] (Some Close ∷ []) (from_end m stops))
 
 -- a call is carried out, or stops among its steps
 pub line_step : (m : Machine) (call : Call) {a b : DiskState} → Passes m call a b → LineCrashStates m (Some call) a b

@@ -1,27 +1,27 @@
 -- A run, turn by turn, with what it wrote to the disk.
-use Rattle.std.proofs.Common.{◌≡◌, inl, ℕ, suc, ◌+◌, ◌≤◌, true, false, List, [], ◌∷◌, ◌++◌, length, Option, Some, None, refl, sym, subst, arith, append-nil, length-append}
+use Rattle.std.proofs.Common.{◌≡◌, inl, ℕ, suc, ◌+◌, ◌≤◌, false, List, [], ◌∷◌, ◌++◌, length, Option, Some, None, refl, sym, subst, arith, append-nil, length-append}
 use Rattle.std.specs.Io.KnownBytes.{Appends}
-use Rattle.labelled_disk.specs.declared.disk.DiskWrite.{DiskWrite}
+use Rattle.labelled_disk.specs.Calls.{RevealsSame}
 use Rattle.labelled_disk.specs.Sectors.{Sector}
 use Rattle.labelled_disk.specs.State.{DiskState}
 use Rattle.flat_machine.specs.declared.call.Reply.{Reply}
+use Rattle.flat_machine.specs.declared.call.Call.TheVariants.{Close}
 use Rattle.flat_machine.specs.After.{TraceLine, next_line}
 use Rattle.flat_machine.specs.Machine.{Machine}
 use Rattle.flat_machine.specs.Text.{text}
 use Rattle.swapper_kernel.specs.Goes.{Went}
-use Rattle.swapper_kernel.specs.SyncLaws.{HasSync}
 use Rattle.trace_io.specs.Course.{HasRead}
 use Rattle.trace_io.specs.Lines.{TakesLine}
 use Rattle.trace_io.specs.Progress.{Progress}
 use Rattle.trace_io.specs.Reading.{is_last, reading}
 use Rattle.trace_io.proofs.CourseLemmas.{HasRead-line}
 use Rattle.running_words.specs.Bound.{CostsOther}
-use Rattle.pilot_engine.specs.Closing.{IsStop, Throughout}
+use Rattle.pilot_engine.specs.Closing.{HasShut, IsStop, Throughout}
 use Rattle.pilot_top.specs.Headline.{CostsLine, CostsLines, HasFilesAt, LeadsTo}
 use Rattle.pilot_top.specs.CrashStates.{CrashStates, IsCrashState, LineCrashStates, Openly}
 use Rattle.pilot_top.specs.Parts.{InParts, LineWrote, PartMay}
 use Rattle.pilot_top.specs.Turn.{Answers}
-use Rattle.pilot_top.specs.Waiting.{HasWaited, IsBrought}
+use Rattle.pilot_top.specs.Waiting.{HasWaited, IsBrought, WaitsAt}
 use Rattle.pilot_top.proofs.AlongLemmas.{by_itself}
 use Rattle.pilot_top.proofs.CostLemmas.{Spends, end_spends, prefix_spends, more_cost, none_cost}
 use Rattle.pilot_top.proofs.LineParts.{parts_line, parts_of_trace}
@@ -29,8 +29,9 @@ use Rattle.pilot_top.proofs.PartLemmas.{parts_none}
 use Rattle.pilot_top.proofs.PrefixLemmas.{read_prefix}
 use Rattle.pilot_top.proofs.PermittedRuns.{openly_then}
 use Rattle.pilot_top.proofs.PlaceLemmas.{leads_after, leads_before}
-use Rattle.pilot_top.proofs.StagedLemmas.{from_end, crash_states_before, crash_states_then, line_whole}
-use Rattle.pilot_top.proofs.WaitedLemmas.{Reached, line_reached, reached_then, waited_later, waited_none}
+use Rattle.pilot_top.proofs.StagedLemmas.{from_end, crash_states_before, crash_states_then, line_close, line_whole, shut_revealed}
+use Rattle.pilot_top.proofs.OwnLemmas.{AreAllOfLines}
+use Rattle.pilot_top.proofs.WaitedLemmas.{HasAnswered, HasLastSync, Reached, answered_before, answered_later, answered_none, answered_then, ended_then, line_reached, reached_all, waited_later}
 use Rattle.pilot_top.proofs.TopLemmas.{Going, Going-start, Going-reply, last_of, reply_lines}
 
 -- what one line has written, and what it cost
@@ -40,22 +41,22 @@ Made going now line mid new = (m : Machine) → now m → LineCrashStates m line
 -- the disk of a session after a line, which stands for such machines then
 pub record Holds (then : Machine → Type 0) (mid new : DiskState) : Type 0 where
   pub went : Went mid new
-  pub has_sync : (writes : List DiskWrite) → new.synced ≡ true → new.writes ≡ Some writes → HasSync new (length writes)
+  pub has_sync : HasLastSync new
   pub here : (m : Machine) → then m → (d : List Sector) → new.contents ≡ Some d → IsCrashState m [] 0 0 d
 
 -- So many lines are answered, and these are the crash states of what was written in them, and what they cost.
 pub record Turned (a c t u : Option (List ℕ)) (p : Progress) (first now : Machine → Type 0) (old new : DiskState) : Type 0 where
   pub going : Going a c t u p first now
-  pub along : (m : Machine) → first m → Reached m going.lines old new
+  pub along : (m : Machine) → first m → HasAnswered m going.lines old new
   pub cost : (m : Machine) → first m → CostsLines going.lines old new
   pub permitted : Openly old new
   pub parts : InParts (PartMay going.lines) (length going.lines) old new
 
-pub Turned-start : (a t : Option (List ℕ)) (p : Progress) (first : Machine → Type 0) (disk : DiskState) → p.taken ≡ 0 → p.stopped ≡ None → ((m : Machine) → first m → CrashStates m [] disk disk) → Openly disk disk
+pub Turned-start : (a t : Option (List ℕ)) (p : Progress) (first : Machine → Type 0) (disk : DiskState) → p.taken ≡ 0 → p.stopped ≡ None → ((m : Machine) → first m → (d : List Sector) → disk.contents ≡ Some d → IsCrashState m [] 0 0 d) → Openly disk disk
     → Turned a a t t p first first disk disk
 Turned-start a t p first disk none stopped along permitted = record {
   going = Going-start a t p first none stopped;
-  along = λ m is. (along m is, waited_none m [] (along m is).writes (along m is).line disk disk);
+  along = λ m is. answered_none m (along m is);
   cost = λ m is. none_cost disk;
   permitted = permitted;
   parts = parts_none (PartMay []) 0 (record { contents = refl; writes = refl });
@@ -66,24 +67,36 @@ module _ {a b t u : Option (List ℕ)} {p : Progress} {first now : Machine → T
   pub more_crash_states : {going : Type 0} {new : DiskState} {line : TraceLine} → Made going now line mid new → (m : Machine) → first m → CrashStates m (turned.going.lines ++ line ∷ []) old new
   more_crash_states {line = line} made m is = crash_states_then m turned.going.lines (line ∷ []) (turned.along m is).0 (line_whole (last_of m turned.going.lines) line (made (last_of m turned.going.lines) (turned.going.stands m is)).0)
 
+  -- what was waited for was so also later
+  pub still_waited : (m : Machine) (is : first m) {new : DiskState} → Went mid new → HasWaited m turned.going.lines (length turned.going.lines) (turned.along m is).0.writes (turned.along m is).0.line old new
+  still_waited m is went = waited_later m turned.going.lines (length turned.going.lines) (turned.along m is).0.writes (turned.along m is).0.line old went (turned.along m is).1
+
   -- and where it was answered, what was waited for
-  pub more_reached : {then : Machine → Type 0} {new : DiskState} {line : TraceLine} {r : Reply} → Holds then mid new → Answers now then line r → is_last line ≡ false → Made (Unit {0}) now line mid new → (m : Machine) → first m
-      → Reached m (turned.going.lines ++ line ∷ []) old new
-  more_reached {line = line} holds answers goes made m is =
-      let reached = turned.along m is in
+  pub more_answered : {then : Machine → Type 0} {new : DiskState} {line : TraceLine} {r : Reply} → Holds then mid new → Answers now then line r → is_last line ≡ false → Made (Unit {0}) now line mid new → LineWrote line mid new
+      → (m : Machine) → first m → HasAnswered m (turned.going.lines ++ line ∷ []) old new
+  more_answered {line = line} holds answers goes made wrote m is =
       let last = last_of m turned.going.lines in
       let stands = turned.going.stands m is in
-      reached_then m turned.going.lines (line ∷ []) reached.0 (waited_later m turned.going.lines (length turned.going.lines) reached.0.writes reached.0.line old holds.went reached.1)
-      (line_reached last line (made last stands).0 (holds.here (next_line last line) (answers.next last stands goes)) holds.has_sync ((made last stands).2 tt))
+      answered_then m turned.going.lines (line ∷ []) holds.went (turned.along m is)
+      (line_reached last line (made last stands).0 (holds.here (next_line last line) (answers.next last stands goes)) holds.has_sync ((made last stands).2 tt) wrote)
 
   -- what the session's end has
   pub ended_reached : (m : Machine) → first m → {new : DiskState} → Went mid new → Throughout (IsStop (last_of m turned.going.lines)) mid new → Reached m turned.going.lines old new
   ended_reached m is {new = new} went stops =
-      let reached = turned.along m is in
+      subst (λ (all : List TraceLine). Reached m all old new) (append-nil turned.going.lines) (ended_then m turned.going.lines went (turned.along m is) (from_end (last_of m turned.going.lines) stops))
+
+  -- and where a line `close` ended it, that line was waited for
+  pub closed_reached : (m : Machine) → first m → {new : DiskState} → Went mid new → HasLastSync new → LineWrote (Some Close) mid new → HasShut (last_of m turned.going.lines) new → Throughout (IsStop (last_of m turned.going.lines)) mid new
+      → Reached m (turned.going.lines ++ Some Close ∷ []) old new
+  closed_reached m is went has_sync wrote shut stops =
       let last = last_of m turned.going.lines in
-      let end : CrashStates last [] mid new = from_end last stops in
-      subst (λ (all : List TraceLine). Reached m all old new) (append-nil turned.going.lines)
-      (reached_then m turned.going.lines [] reached.0 (waited_later m turned.going.lines (length turned.going.lines) reached.0.writes reached.0.line old went reached.1) (end, waited_none last [] end.writes end.line mid new))
+      reached_all m (turned.going.lines ++ Some Close ∷ [])
+      (answered_then m turned.going.lines (Some Close ∷ []) went (turned.along m is) (line_reached last (Some Close) (line_close last stops) (shut_revealed last shut) has_sync (λ waiting. shut.synced) wrote))
+
+  -- and where it was left as it stood, by a line that wrote nothing
+  pub left_reached : (m : Machine) → first m → {new : DiskState} (tail : List TraceLine) → RevealsSame mid new → Went mid new → ((j : ℕ) → WaitsAt (last_of m turned.going.lines) tail j → ⊥) → Reached m (turned.going.lines ++ tail) old new
+  left_reached m is tail same went none =
+      reached_all m (turned.going.lines ++ tail) (answered_before m turned.going.lines tail none (answered_later m turned.going.lines same went (turned.along m is)))
 
   pub ended_crash_states : (m : Machine) → first m → {new : DiskState} → Throughout (IsStop (last_of m turned.going.lines)) mid new → CrashStates m turned.going.lines old new
   ended_crash_states m is {new = new} stops =
@@ -98,8 +111,8 @@ module _ {a b t u : Option (List ℕ)} {p : Progress} {first now : Machine → T
       → is_last line ≡ false → Holds then mid new → Made (Unit {0}) now line mid new → LineWrote line mid new → Openly mid new → Appends u v (text r) → Turned a c t v q first then old new
   Turned-reply {c = c} {v = v} {q = q} {then = then} {new = new} {line = line} {r = r} same none takes answers goes holds made written permitted wrote = record {
     going = Going-reply a b t u p first now turned.going c v q then line r none takes answers goes wrote;
-    along = subst (λ (lines : List TraceLine). (m : Machine) → first m → Reached m lines old new) (sym (reply_lines a b t u p first now turned.going c v q then line r none takes answers goes wrote))
-        (more_reached holds answers goes made);
+    along = subst (λ (lines : List TraceLine). (m : Machine) → first m → HasAnswered m lines old new) (sym (reply_lines a b t u p first now turned.going c v q then line r none takes answers goes wrote))
+        (more_answered holds answers goes made written);
     cost = subst (λ (lines : List TraceLine). (m : Machine) → first m → CostsLines lines old new) (sym (reply_lines a b t u p first now turned.going c v q then line r none takes answers goes wrote))
         (more_costs same made);
     permitted = openly_then turned.permitted permitted;
@@ -137,14 +150,14 @@ module _ (m : Machine) {x : List ℕ} {c : Option (List ℕ)} {q : Progress} {li
   pub leads_of_reading : {old new : DiskState} → HasFilesAt m lines new (length lines) 0 → Reached m lines old new → LeadsTo m (reading x) old new (length lines) 0
   leads_of_reading {old = old} {new = new} has on =
       let prefix = read_prefix x c q lines read in
-      subst (λ (all : List TraceLine). LeadsTo m all old new (length lines) 0) (sym prefix.1) (leads_before m lines prefix.0 (length lines) 0 (by_itself (length lines) 0) (has, on.0, on.1))
+      subst (λ (all : List TraceLine). LeadsTo m all old new (length lines) 0) (sym prefix.1) (leads_before m lines prefix.0 (length lines) 0 (by_itself (length lines) 0) (has, on.0, on.1, on.2))
 
 -- a line was begun after these
-pub leads_of_begun : (m : Machine) {x : List ℕ} {c : Option (List ℕ)} {q : Progress} (lines : List TraceLine) (line : TraceLine) → HasRead (Some x) c q (lines ++ line ∷ []) → {old mid new : DiskState} (on : CrashStates m lines old mid) → HasWaited m lines (length lines) on.writes on.line old new → (i : ℕ)
+pub leads_of_begun : (m : Machine) {x : List ℕ} {c : Option (List ℕ)} {q : Progress} (lines : List TraceLine) (line : TraceLine) → HasRead (Some x) c q (lines ++ line ∷ []) → {old mid new : DiskState} (on : CrashStates m lines old mid) → HasWaited m lines (length lines) on.writes on.line old new → AreAllOfLines lines on.writes on.line old → (i : ℕ)
     → LeadsTo (last_of m lines) (line ∷ []) mid new 0 i → LeadsTo m (reading x) old new (length lines) i
-leads_of_begun m {x = x} {c = c} {q = q} lines line read {old = old} {new = new} on early i leads =
+leads_of_begun m {x = x} {c = c} {q = q} lines line read {old = old} {new = new} on early all i leads =
     let prefix = read_prefix x c q (lines ++ line ∷ []) read in
-    let here : LeadsTo m (lines ++ line ∷ []) old new (length lines + 0) i = leads_after m lines (line ∷ []) 0 i on early leads in
+    let here : LeadsTo m (lines ++ line ∷ []) old new (length lines + 0) i = leads_after m lines (line ∷ []) 0 i on leads refl early all in
     let there : LeadsTo m (lines ++ line ∷ []) old new (length lines) i = subst (λ (k : ℕ). LeadsTo m (lines ++ line ∷ []) old new k i) (omega arith) here in
     subst (λ (all : List TraceLine). LeadsTo m all old new (length lines) i) (sym prefix.1)
     (leads_before m (lines ++ line ∷ []) prefix.0 (length lines) i (inl (omega (arith, length-append lines (line ∷ [])))) there)

@@ -14,6 +14,7 @@ use Rattle.flat_machine.specs.Settled.{settled}
 use Rattle.cut_laws.specs.ChangeRows.{AreApart}
 use Rattle.cut_laws.specs.Cut.{AtSome, IsCut}
 use Rattle.cut_laws.specs.Honest.{IsBetweenSyncs}
+use Rattle.cut_laws.specs.NewPages.{AddsZeros, HasOwnNewPages, HasPlainFree}
 use Rattle.cut_laws.specs.OneCrashState.{HasUnitsOfCrashStates}
 use Rattle.pilot_top.specs.CrashStates.{CrashStates, staged}
 use Rattle.pilot_top.specs.Forcing.{AtEach}
@@ -49,6 +50,8 @@ HasCounterAt m lines j counter = (counter ≡ (after m lines j).counter) ⊎ (co
 -- of e that has the same bytes at each of these places where the file is settled has these bytes. A page that the file has in each crash
 -- state in which it is there is made of units that stood in it, whatever was stored. The root of e has the counter that the machine has
 -- before or after the line of one of these places, and gives out no identifier of a file of e.
+-- Where free labels were plain at the start, each page of a file of e that the file did not have at the sync is made of units that stood in
+-- it since. A page that a write adds to a file that is there is zeros first. So it has no byte of another file.
 pub record IsOfOnePlace (m : Machine) (lines : List TraceLine) (d : List Sector) (writes : List DiskWrite) (line step : ℕ → ℕ) (s k : ℕ) (e : List Sector) : Type 0 where
   pub place : AtSome s k (λ i. HasShapesOf e (staged m lines (line i) (step i)))
   pub bytes : (id page : ℕ) (f : File) (bytes : List ℕ) → disk_file false e id ≡ Some f
@@ -56,6 +59,8 @@ pub record IsOfOnePlace (m : Machine) (lines : List TraceLine) (d : List Sector)
   pub units : (id : ℕ) → HasUnitsOfCrashStates false id d writes s k e
   pub counter : AtSome s k (λ i. HasCounterAt m lines (line i) (counter_of e))
   pub above : IsAboveFiles e
+  pub own : HasPlainFree d → (id : ℕ) → HasOwnNewPages false id d writes s k e
+  pub zeros : (id : ℕ) → AddsZeros false id d writes
 
 -- Writes and syncs are revealed: where the disk was synced after s of the writes of a run and not since, when k were made, each cut has the
 -- settled files of the machine, but for bytes, at one place of the trace, no earlier than that sync and no later than the cut. So it is

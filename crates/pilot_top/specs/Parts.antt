@@ -9,37 +9,22 @@ use Rattle.labelled_disk.specs.Permitted.{Permitted}
 use Rattle.labelled_disk.specs.Sectors.{Sector}
 use Rattle.labelled_disk.specs.State.{DiskState}
 use Rattle.labelled_disk.specs.WriteRuns.{Appended}
-use Rattle.flat_machine.specs.declared.call.Call.{Call}
-use Rattle.flat_machine.specs.declared.call.Call.TheVariants.{Close, Halt}
 use Rattle.flat_machine.specs.declared.call.Reply.{Reply}
 use Rattle.flat_machine.specs.After.{TraceLine}
 use Rattle.flat_machine.specs.Text.{text}
 use Rattle.trace_io.specs.Reading.{is_last, reading, whole_reading}
-use Rattle.session_words.specs.Volume.{volume_page}
 use Rattle.volume_root.specs.declared.root.Root.{Root}
 use Rattle.volume_root.specs.RootPage.{root_in}
 use Rattle.file_manager.specs.Creating.{IsMonotone, counted, next_id}
-use Rattle.pilot_engine.specs.Writing.{CallMay, Written}
+use Rattle.pilot_engine.specs.Writing.{Written}
 use Rattle.pilot_top.specs.Headline.{HasWritten, Taken}
 use Rattle.pilot_top.specs.Last.{last_line}
+use Rattle.pilot_top.specs.LineWrites.{LineMay, StartMay}
 use Rattle.pilot_top.specs.declared.last.Cause.TheVariants as cause
 use Rattle.pilot_top.specs.declared.status.Status.{Status}
 use Rattle.pilot_top.specs.declared.status.Status.TheVariants as status
 
 -- What a part may write.
-
--- a start: the root, labels of the space tables, and pages of the volume's own
-abbrev pub StartMay : DiskWrite → Type 0
-StartMay (Whole sector label page) = (sector ≡ 0) ⊎ (label.id ≡ 3)
-StartMay (LabelOnly sector label) = ⊥
-StartMay (Page sector wanted page) = volume_page wanted.id wanted.page
-
--- a line: a bad one and a `halt` write nothing, and a `close` is the end; a call writes what it may on a volume with some root
-abbrev pub LineMay : TraceLine → List Sector → DiskWrite → Type 0
-LineMay None d w = ⊥
-LineMay (Some Halt) d w = ⊥
-LineMay (Some Close) d w = Unit {0}
-LineMay (Some c) d w = (root : Root) × CallMay (next_id root) (counted root) c d w
 
 -- what comes next in a trace: a line, or its end
 abbrev pub NextMay : Option TraceLine → List Sector → DiskWrite → Type 0

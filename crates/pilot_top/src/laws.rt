@@ -28,8 +28,8 @@ pub fn trials_have_one_line()
         → IsTrial n seed calls rs → IsTrial k seed calls ss → rs ≡ ss }
 {}
 
-/// Of a run that answered `force`, `unmap` or `protect` to read-only: bytes that are forced from that line on are in each cut from a
-/// sync on that was made before the run's end.
+/// Of a run that answered `force`, `unmap`, `protect` to read-only or `close`: bytes that are forced from that line on are in each cut
+/// from the sync on that was made for that line, after its last write and before any of a later line.
 pub fn what_was_waited_for_is_in_cuts()
     ensures { WaitedForLasts }
 {}

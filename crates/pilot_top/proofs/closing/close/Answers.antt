@@ -16,11 +16,11 @@ pub returns-in-Ok-clause-stands : goal.returns-in-Ok-clause-stands
 returns-in-Ok-clause-stands g c = λ m is.
     let e = c.finish-closed.ensures in
     record {
-      closed = λ none. subst (λ r. OnOk r (HasShut m (g.D.Disk.state c.finish-closed.result.1))) c.in-Ok.is (e.closed m is);
-      stops = e.stops m is;
+      closed = λ none. subst (λ r. OnOk r (HasShut m (g.D.Disk.state c.finish-closed.result.1))) c.in-Ok.is ((e.machine m is).closed);
+      stops = (e.machine m is).stops;
       sound = λ damaged. none-some _ damaged;
-      cost = e.cost m is;
-      syncs = e.syncs m is;
+      cost = (e.machine m is).cost;
+      syncs = (e.machine m is).syncs;
     }
 
 -- it halted
@@ -29,10 +29,10 @@ returns-in-Err-clause-stands g c = λ m is.
     let e = c.finish-closed.ensures in
     record {
       closed = λ none. absurd (none-some _ (sym none));
-      stops = e.stops m is;
-      sound = λ damaged. not_damaged c.in-Err.halt c.stop.result (of_halt c.finish-closed.result.0 c.in-Err.halt c.in-Err.is (λ h. h ≡ halt.Disk) (e.sound m is)) c.stop.ensures.status damaged;
-      cost = e.cost m is;
-      syncs = e.syncs m is;
+      stops = (e.machine m is).stops;
+      sound = λ damaged. not_damaged c.in-Err.halt c.stop.result (of_halt c.finish-closed.result.0 c.in-Err.halt c.in-Err.is (λ h. h ≡ halt.Disk) ((e.machine m is).sound)) c.stop.ensures.status damaged;
+      cost = (e.machine m is).cost;
+      syncs = (e.machine m is).syncs;
     }
 
 pub returns-in-Err-clause-stops : goal.returns-in-Err-clause-stops
@@ -41,5 +41,5 @@ returns-in-Err-clause-stops g c =
     let h = c.in-Err.halt in
     let disk = g.D.Disk.state c.finish-closed.result.1 in
     stops_ending None h c.stop.result _ _ _ (FromEachInitialState c.args.session disk) (state c.args.session.core).disk disk (λ x is. absurd (none-some x is)) c.stop.ensures.status c.stop.ensures.line
-    (λ is. e.counted (c.in-Err.is ∙ ap (λ (x : Halt). Err x) is)) (of_halt c.finish-closed.result.0 h c.in-Err.is (ShowsEvidence disk) e.evidence_seen)
-    (end_reasoned c.finish-closed.result.0 h c.in-Err.is c.args.session disk e.reasons e.sees) (λ unset. of_halt c.finish-closed.result.0 h c.in-Err.is (LeavesOpen disk) (e.left_open unset))
+    (λ is. e.halts.counted (c.in-Err.is ∙ ap (λ (x : Halt). Err x) is)) (of_halt c.finish-closed.result.0 h c.in-Err.is (ShowsEvidence disk) e.halts.evidence_seen)
+    (end_reasoned c.finish-closed.result.0 h c.in-Err.is c.args.session disk e.accounts) (λ unset. of_halt c.finish-closed.result.0 h c.in-Err.is (LeavesOpen disk) (e.halts.left_open unset))

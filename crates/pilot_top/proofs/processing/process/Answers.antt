@@ -25,8 +25,8 @@ started : (g : given.Over) (c : goal.After-answer_clients g) (e : Evidence) → 
 started g c e shown =
     let session = c.in-Ok.session in (
       shown.0,
-      reason_started session (g.D.Disk.state c.args.disk) (g.D.Disk.state c.answer_clients.result.1) e (accepted session.core.filer) (sym c.in-Ok.ensures.size ∙ c.in-Ok.ensures.wrote.went.sectors) (g.met.D.Disk.whole c.args.disk)
-          c.in-Ok.ensures.keeps_to c.in-Ok.ensures.sees (λ d revealed. (c.in-Ok.ensures.root d revealed).0) shown.1,
+      reason_started session (g.D.Disk.state c.args.disk) (g.D.Disk.state c.answer_clients.result.1) e (accepted session.core.filer) (sym c.in-Ok.ensures.session.takes.size ∙ c.in-Ok.ensures.writes.wrote.went.sectors) (g.met.D.Disk.whole c.args.disk)
+          c.in-Ok.ensures.accounts (λ d revealed. (c.in-Ok.ensures.writes.root d revealed).0) shown.1,
     )
 
 -- a session started
@@ -39,29 +39,29 @@ returns-in-Ok g c =
     let room = e.began.1 in
     let first = g.D.Disk.state c.args.disk in
     let disk = g.D.Disk.state c.answer_clients.result.1 in
-    let causes = causes_since first from.wrote.went.faults e.causes in
+    let causes = causes_since first from.writes.wrote.went.faults e.causes in
     record {
       processed = record {
-        answers = λ d b t revealed sound source sink. processes_of s (start d) b _ t _ _ disk opened room (e.answers (start d) b t (from.stands d revealed sound) from.left_open source sink);
+        answers = λ d b t revealed sound source sink. processes_of s (start d) b _ t _ _ disk opened room (e.answers (start d) b t ((from.machine d revealed sound).stands) from.writes.left_open source sink);
         replied = λ b t source sink.
             replies_started (λ x. IsEvident disk x × FromEachInitialState c.in-Ok.session disk x) (ShowsDamage first disk) (started g c) (IsLeftOpen disk) (IsLeftOpen disk) (λ still. still) s b _ t _ _ opened room
-            (e.replied b t from.left_open source sink);
+            (e.replied b t from.writes.left_open source sink);
         transfers = λ d b t revealed sound source sink.
-            costs_started b first (state c.in-Ok.session.core).disk disk from.wrote.went.sectors from.bounded (e.transfers (start d) b t (from.stands d revealed sound) source sink);
-        permitted = ran_lawfully from.wrote from.left_open e.permitted;
-        left_open = λ is. e.left_open from.left_open is;
+            costs_started b first (state c.in-Ok.session.core).disk disk from.writes.wrote.went.sectors from.spends.bounded (e.transfers (start d) b t ((from.machine d revealed sound).stands) source sink);
+        permitted = ran_lawfully from.writes.wrote from.writes.left_open e.permitted;
+        left_open = λ is. e.left_open from.writes.left_open is;
         damage = λ is. let all = e.damage is in (all.0, started g c all.0 (all.1, all.2));
-        sound = λ d revealed sound. (opened, e.sound (start d) (from.stands d revealed sound));
+        sound = λ d revealed sound. (opened, e.sound (start d) ((from.machine d revealed sound).stands));
         not_opened = λ d revealed is. absurd (opened is);
-        refused = λ d why revealed refused. absurd (from.refused d why revealed refused);
-        refused_unwritten = λ d why revealed refused. absurd (from.refused d why revealed refused);
-        complete = λ d b revealed sound source short disk_held source_held sink_held. completes causes (opened, e.sound (start d) (from.stands d revealed sound)) b source short disk_held source_held sink_held;
+        refused = λ d why revealed refused. absurd (from.refuses.refused d why revealed refused);
+        refused_unwritten = λ d why revealed refused. absurd (from.refuses.refused d why revealed refused);
+        complete = λ d b revealed sound source short disk_held source_held sink_held. completes causes (opened, e.sound (start d) ((from.machine d revealed sound).stands)) b source short disk_held source_held sink_held;
         short = e.short;
       };
       causes = causes;
-      refuses = started_refuses s opened room first disk _ from.refused from.count;
-      leaves = started_streams s opened room first.contents _ _ from.refused;
-      same_disk = went_then from.wrote.went e.same_disk;
+      refuses = started_refuses s opened room first disk _ from.refuses.refused from.refuses.count;
+      leaves = started_streams s opened room first.contents _ _ from.refuses.refused;
+      same_disk = went_then from.writes.wrote.went e.same_disk;
     }
 
 -- no session started
@@ -79,26 +79,26 @@ returns-in-Err g c =
     let disk = g.D.Disk.state c.in-Err.disk in
     let left = g.S.Source.left c.args.source.now in
     let source_faults = g.S.Source.faults c.args.source.now in
-    let shows = damage_at_start first disk f from.evidence_seen (reason_refused first disk f from.reasons from.sees) in
-    let refuses = unstarted_refuses f s old new took _ stops first disk from.judged from.refused from.count from.unwritten in
-    let causes = unstarted_causes f s old new took _ stops first disk IsShortText (world first left source_faults (took old) (faults old)) (world disk left source_faults (took new) (faults new)) from.counted in
+    let shows = damage_at_start first disk f from.fails.evidence_seen (reason_refused first c.in-Err.disk f from.accounts) in
+    let refuses = unstarted_refuses f s old new took _ stops first disk from.refuses.judged from.refuses.refused from.refuses.count from.fails.unwritten in
+    let causes = unstarted_causes f s old new took _ stops first disk IsShortText (world first left source_faults (took old) (faults old)) (world disk left source_faults (took new) (faults new)) from.fails.counted in
     record {
       processed = record {
-        answers = λ d b t revealed sound source sink. processes_refused f s old new took _ stops (start d) b t left disk (from.sound d revealed sound) source sink;
+        answers = λ d b t revealed sound source sink. processes_refused f s old new took _ stops (start d) b t left disk ((from.machine d revealed sound).sound) source sink;
         replied = λ b t source sink. replies_refused f s old new took _ stops (ShowsDamage first disk) shows (IsLeftOpen disk) b t left source sink;
-        transfers = λ d b t revealed sound source sink. costs_refused b first disk from.bounded;
-        permitted = started_lawfully from.wrote;
-        left_open = λ is. left_at_start f s old new took _ stops disk from.left_open is;
+        transfers = λ d b t revealed sound source sink. costs_refused b first disk from.spends.bounded;
+        permitted = started_lawfully from.writes.wrote;
+        left_open = λ is. left_at_start f s old new took _ stops disk from.writes.left_open is;
         damage = λ is. damage_refused f s old new took _ stops (ShowsDamage first disk) shows is;
-        sound = λ d revealed sound. not_sound f s old new took _ stops (from.sound d revealed sound);
+        sound = λ d revealed sound. not_sound f s old new took _ stops ((from.machine d revealed sound).sound);
         not_opened = refuses.not_opened;
         refused = λ d why revealed refused. with_memory s (refuses.refused d why revealed refused);
         refused_unwritten = refuses.refused_unwritten;
-        complete = λ d b revealed sound source short disk_held source_held sink_held. completes causes (not_sound f s old new took _ stops (from.sound d revealed sound)) b source short disk_held source_held sink_held;
+        complete = λ d b revealed sound source short disk_held source_held sink_held. completes causes (not_sound f s old new took _ stops ((from.machine d revealed sound).sound)) b source short disk_held source_held sink_held;
         short = λ b source done. absurd ((not_done f s old new took _ stops).0 done);
       };
       causes = causes;
       refuses = refuses;
       leaves = unstarted_streams f s old new took _ stops first disk _ refl;
-      same_disk = from.wrote.went;
+      same_disk = from.writes.wrote.went;
     }

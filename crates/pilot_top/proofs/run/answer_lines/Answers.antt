@@ -38,7 +38,6 @@ use Rattle.pilot_top.proofs.ApartLines.{ended_apart, openly_apart, still_apart}
 use Rattle.pilot_top.proofs.ApartRuns.{apart_none, apart_of_any}
 use Rattle.pilot_top.proofs.EndLemmas.{End-answering, End-prefix, End-rest, End-short}
 use Rattle.pilot_top.proofs.ExitLemmas.{done_leads, halt_not_damaged, halt_evidence, three_ways, stopped_leads, takes_more, still_crash_states, still_spends, line_spends, end_spent, still_leads, line_crash_states, halt_leads, reply_leads, line_not_close, end_closed, end_unheard, end_crash_states}
-use Rattle.pilot_top.proofs.PrefixLemmas.{End-has}
 use Rattle.pilot_top.proofs.PermittedRuns.{called_openly, ended_last, openly_last, openly_none, openly_then}
 use Rattle.pilot_top.proofs.ShutLemmas.{openly_shuts, shuts_after}
 use Rattle.pilot_top.proofs.OpenLemmas.{early_halt}
@@ -50,7 +49,7 @@ use Rattle.pilot_top.proofs.ReasonLemmas.{damage_same, goes_nowhere, goes_then, 
 use Rattle.pilot_top.proofs.RepliedLemmas.{Replied-changed, Replied-end, Replied-halted, Replied-long, Replied-read_fault, Replied-write_fault}
 use Rattle.pilot_top.specs.Sparing.{Hides}
 use Rattle.pilot_top.proofs.SparedLineLemmas.{lines_end, lines_hide, lines_more, lines_none, lines_run, lines_same, lines_source, run_still}
-use Rattle.pilot_top.proofs.StagedLemmas.{from_rest, stands_revealed}
+use Rattle.pilot_top.proofs.StagedLemmas.{stands_revealed}
 use Rattle.pilot_top.proofs.StatusLemmas.{halt_ends, trace_ends}
 use Rattle.pilot_top.proofs.StopParts.{Stops-end, Stops-halted, Stops-long, Stops-read_fault, Stops-write_fault, bytes_taken, end_parts, line_taken}
 use Rattle.pilot_top.proofs.TopLemmas.{change_revealed, last_of, Run-disk, Run-long, Run-read_fault, Run-write_fault, not_short, rose_later, Puts-later, damage_revealed, revealed_prefix, Going-sink, Going-revealed}
@@ -108,7 +107,7 @@ turns-init g c =
     let stopped = ap (λ p. p.stopped) made in
     record {
       turned = Turned-start _ _ c.with_limit-lines.result _ _ (ap (λ p. p.taken) made) stopped
-          (λ m is. from_rest m [] is (λ d revealed. g.met.D.Disk.in_form (disk_of c.args.session.core.filer) d revealed))
+          (λ m is. stands_revealed m is (λ d revealed. g.met.D.Disk.in_form (disk_of c.args.session.core.filer) d revealed))
           (openly_none (record { contents = refl; writes = refl }));
       spared = lines_none _ c.with_limit-lines.result c.args.session.volume.root (session_disk g c.args.session) (session_slots g c.args.session) (Hides c.args.session)
           (HasRead-none _ c.with_limit-lines.result (ap (λ p. p.taken) made) stopped);
@@ -182,7 +181,7 @@ returns-in_default g c =
       answers = record {
         answering = λ m b t stands source sink.
             let turned = Turned-revealed i.turned source sink in
-            let has = reply_leads m turned stands turn.0 turn.2 turn.4 (session_disk g c.take_turn.new.session) (holds g c.turns.session c.take_turn.new.session c.take_turn.ensures.writes.wrote.makes.went) turn.5 turn.3 (reveals g c.take_turn.new.session) in
+            let has = reply_leads m turned stands turn.0 turn.2 turn.4 (session_disk g c.take_turn.new.session) (holds g c.turns.session c.take_turn.new.session c.take_turn.ensures.writes.wrote.makes.went) turn.5 turn.6.wrote turn.3 (reveals g c.take_turn.new.session) in
             Run-write_fault m b t _ _ c.turns.lines _ _ turned.going stands _ (LeadsTo m (reading b) (session_disk g c.args.session) (g.D.Disk.state c.into_disk.result)) _ _ c.take_turn.new.lines _ turn.1 c.in-Replies.reply turn.0 turn.2 turn.3
             rose put.0 put.1 put.2 (rw c.into_disk.ensures has);
         replied = λ b t left source sink plain.
@@ -523,8 +522,8 @@ returns-in-Ends g c =
             (three_ways c.end_trace.result.0 e.answers.ends (e.stands _ there).sound) e.answers.done e.answers.part
             (λ is. (rose_later _ _ _ i.sink (e.answers.stream_cause is).0, (e.answers.stream_cause is).1))
             (λ is. Puts-later _ _ _ _ _ (rose_later _ _ _ i.sink) (e.answers.disk_fault is).2)
-            (λ well. done_leads m turned stands disk c.in-Ends.end _ c.take_turn.new.lines ended e.writes.wrote.went
-            (End-has m b _ _ _ c.turns.lines _ _ turned.going disk revealed c.in-Ends.end _ c.take_turn.new.lines ended (λ other. (e.stands _ there).closed (other, well))) (e.stands _ there).stops)
+            (λ well. done_leads m turned stands disk c.in-Ends.end _ c.take_turn.new.lines ended e.writes.wrote
+            (λ writes synced is. synced_has disk (g.met.D.Disk.sync_counts c.end_trace.result.1) synced writes is) e.halted (λ other. (e.stands _ there).closed (other, well)) (e.stands _ there).stops)
             (stopped_leads m turned stands disk e.writes.wrote.went revealed (e.stands _ there).stops);
         replied = λ b t left source sink plain.
             Replied-end b t (Going-revealed _ _ _ _ _ _ _ b t i.turned.going source sink) _ disk (FromEachInitialState c.args.session disk) c.end_trace.result.0 c.in-Ends.end (g.S.Source.left c.take_turn.new.source) _ c.take_turn.new.lines ended e.answers.ends e.answers.done e.answers.part

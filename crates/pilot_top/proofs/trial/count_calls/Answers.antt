@@ -9,15 +9,15 @@ use Rattle.pilot_top.proofs.TrialLemmas.{drawn_more, one_answered}
 use Rattle.pilot_top.proofs.trial.count_calls.Goals as goal
 
 pub returns-in-Err-clause-sound : goal.returns-in-Err-clause-sound
-returns-in-Err-clause-sound g c = λ m stands. (c.in-Err.ensures.answers (after_calls m (drawn_calls c.args.seed c.loop.counter)) (c.loop.invariant.answered.3 m stands).stands).sound
+returns-in-Err-clause-sound g c = λ m stands. (c.in-Err.ensures.machine (after_calls m (drawn_calls c.args.seed c.loop.counter)) (c.loop.invariant.answered.3 m stands).stands).answers.sound
 
 pub returns-in-Err-clause-permitted : goal.returns-in-Err-clause-permitted
-returns-in-Err-clause-permitted g c = openly_then c.loop.invariant.permitted (called_openly c.step.ensures.wrote)
+returns-in-Err-clause-permitted g c = openly_then c.loop.invariant.permitted (called_openly c.step.ensures.writes.wrote)
 
 pub loop-preserved : goal.loop-preserved
 loop-preserved g c =
     let i = c.loop.invariant in
-    let went = c.step.ensures.wrote.makes.went in
+    let went = c.step.ensures.writes.wrote.makes.went in
     let k = c.loop.counter in
     let seed = c.args.seed in
     record {
@@ -27,17 +27,17 @@ loop-preserved g c =
         omega (arith, length_push evidence_seen.0 c.in-Ok.reply, evidence_seen.2),
         λ m stands.
             one_answered m (drawn_calls seed k) (drawn_calls seed (k + 1)) evidence_seen.0 (Runs c.loop.session.core c.loop.session.volume) (Runs c.step.new.self.core c.step.new.self.volume) c.next_call.result c.in-Ok.reply
-            (drawn_more seed k c.next_call.result (c.next_call.ensures.call seed k i.drawn)) (evidence_seen.3 m stands) (λ n is. let done = (c.in-Ok.ensures.answers n is).carried in (done.allowed, done.runs)),
+            (drawn_more seed k c.next_call.result (c.next_call.ensures.call seed k i.drawn)) (evidence_seen.3 m stands) (λ n is. let done = (c.in-Ok.ensures.machine n is).answers.carried in (done.allowed, done.runs)),
       );
       drawn = subst (λ (n : ℕ). IsAt c.next_call.new.self seed n) (let on : suc k ≡ k + 1 = omega arith in on) (c.next_call.ensures.next seed k i.drawn);
       errors = omega (arith, c.add.ensures.one, i.errors);
       loaded = omega (arith, c.add.ensures.few, i.loaded);
-      permitted = openly_then i.permitted (called_openly c.step.ensures.wrote);
+      permitted = openly_then i.permitted (called_openly c.step.ensures.writes.wrote);
       went = went_then i.went went;
-      layout = c.step.ensures.stays.layout ∙ i.layout;
-      size = went.sectors ∙ i.size ∙ ap (λ l. l.sectors) (sym c.step.ensures.stays.layout);
-      opened = c.step.ensures.stays.open_still;
-      running = c.in-Ok.ensures.goes_on;
+      layout = c.step.ensures.remains.stays.layout ∙ i.layout;
+      size = went.sectors ∙ i.size ∙ ap (λ l. l.sectors) (sym c.step.ensures.remains.stays.layout);
+      opened = c.step.ensures.remains.stays.open_still;
+      running = c.in-Ok.ensures.remains.goes_on;
     }
 
 pub returns-clause-answered : goal.returns-clause-answered

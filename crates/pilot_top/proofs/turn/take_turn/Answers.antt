@@ -24,6 +24,7 @@ use Rattle.pilot_top.proofs.RootLemmas.{counted_up, raises_call}
 use Rattle.pilot_top.proofs.SparedLineLemmas.{bad_done, call_done}
 use Rattle.pilot_top.proofs.StagedLemmas.{line_rest, line_step}
 use Rattle.pilot_top.proofs.TurnLemmas.{answers_bad, answers_call, bad_not_end, call_not_end, call_wrote, goes_on, same_halt}
+use Rattle.pilot_top.proofs.WaitedLemmas.{waits_on}
 use Rattle.pilot_top.proofs.turn.take_turn.Goals as goal
 
 pub step-requires-clause-in_form : goal.step-requires-clause-in_form
@@ -44,24 +45,24 @@ returns-in-Ok-clause-turns g c =
       c.in-Call.ensures.next begun,
       answers_call (Runs c.args.session.now.core c.args.session.now.volume)
           (Runs c.step.new.self.core c.step.new.self.volume) c.in-Call.call c.in-Ok.reply more
-          (λ m is. let done = (c.in-Ok.ensures.answers m is).carried in (done.allowed, done.runs)),
+          (λ m is. let done = (c.in-Ok.ensures.machine m is).answers.carried in (done.allowed, done.runs)),
       more,
       λ m is. (
-        line_step m c.in-Call.call ((c.step.ensures.answers m is).passes),
-        call_costs c.in-Call.call (state c.args.session.now.core).disk (state c.step.new.self.core).disk c.step.ensures.reference ((c.step.ensures.answers m is).cost),
-        λ going waiting. c.in-Ok.ensures.forced m waiting.0 waiting.1 is,
+        line_step m c.in-Call.call ((c.step.ensures.machine m is).answers.passes),
+        call_costs c.in-Call.call (state c.args.session.now.core).disk (state c.step.new.self.core).disk c.step.ensures.reference ((c.step.ensures.machine m is).answers.cost),
+        λ going waiting. (c.in-Ok.ensures.machine m is).forced (waits_on c.in-Call.call more waiting.0) waiting.1,
       ),
-      call_done c.args.session.now.volume.root c.in-Call.call (line_wrote c.args.session.now.volume.root c.in-Call.call more c.step.ensures.wrote c.step.ensures.own.0) c.step.ensures.wrote c.step.ensures.spares
+      call_done c.args.session.now.volume.root c.in-Call.call (line_wrote c.args.session.now.volume.root c.in-Call.call more c.step.ensures.writes.wrote c.step.ensures.writes.own.0) c.step.ensures.writes.wrote c.step.ensures.writes.spares
           (λ id client other free is. (
-            λ going. hidden_still c.args.session.now c.step.new.self c.in-Call.call id client is other free (c.step.ensures.stays.monotone, c.step.ensures.stays.serial)
-                (λ o keeps not_older. (c.in-Ok.ensures.accounts o keeps not_older).keeps_to) c.in-Ok.ensures.windows,
-            hidden_makes c.args.session.now c.step.new.self c.in-Call.call id client is c.step.ensures.shown,
+            λ going. hidden_still c.args.session.now c.step.new.self c.in-Call.call id client is other free (c.step.ensures.remains.stays.monotone, c.step.ensures.remains.stays.serial)
+                (λ o keeps not_older. (c.in-Ok.ensures.accounts o keeps not_older).accounts.keeps_to) (λ o keeps not_older. (c.in-Ok.ensures.accounts o keeps not_older).windows),
+            hidden_makes c.args.session.now c.step.new.self c.in-Call.call id client is c.step.ensures.writes.shown,
           )),
     )
 
 pub returns-in-Ok-clause-accounts : goal.returns-in-Ok-clause-accounts
 returns-in-Ok-clause-accounts g c = λ o keeps not_older.
-    let e = c.in-Ok.ensures.accounts o keeps not_older in
+    let e = (c.in-Ok.ensures.accounts o keeps not_older).accounts in
     record {
       keeps_to = λ going. e.keeps_to;
       reasons = λ why is. absurd (cc is);
@@ -72,25 +73,25 @@ returns-in-Ok-clause-accounts g c = λ o keeps not_older.
 pub returns-in-Ok-clause-stays : goal.returns-in-Ok-clause-stays
 returns-in-Ok-clause-stays g c = record {
   idle = λ idle. absurd idle;
-  going = λ going. c.in-Ok.ensures.goes_on;
-  open_still = c.step.ensures.stays.open_still;
-  layout = c.step.ensures.stays.layout;
+  going = λ going. c.in-Ok.ensures.remains.goes_on;
+  open_still = c.step.ensures.remains.stays.open_still;
+  layout = c.step.ensures.remains.stays.layout;
 }
 
 pub returns-in-Ok-clause-writes : goal.returns-in-Ok-clause-writes
 returns-in-Ok-clause-writes g c =
     let root = c.args.session.now.volume.root in
-    let up : IsMonotone root c.step.new.self.volume.root = (c.step.ensures.stays.monotone, c.step.ensures.stays.serial) in
+    let up : IsMonotone root c.step.new.self.volume.root = (c.step.ensures.remains.stays.monotone, c.step.ensures.remains.stays.serial) in
     record {
-      wrote = call_wrote c.in-Call.call c.step.ensures.wrote;
+      wrote = call_wrote c.in-Call.call c.step.ensures.writes.wrote;
       roots = record {
         monotone = up;
-        raises = λ goes. raises_call root c.step.new.self.volume.root c.in-Call.call c.requires.ready.opened.valid.serial up c.step.ensures.wrote c.in-Ok.ensures.own.1;
-        counts = raises_call root (counted root) c.in-Call.call c.requires.ready.opened.valid.serial (counted_up root) c.step.ensures.wrote c.step.ensures.own.0;
+        raises = λ goes. raises_call root c.step.new.self.volume.root c.in-Call.call c.requires.ready.opened.valid.serial up c.step.ensures.writes.wrote c.in-Ok.ensures.writes.own.1;
+        counts = raises_call root (counted root) c.in-Call.call c.requires.ready.opened.valid.serial (counted_up root) c.step.ensures.writes.wrote c.step.ensures.writes.own.0;
       };
       apart = λ m is.
-          call_apart m c.in-Call.call false is.session.stands.is.by.machine c.in-None.ensures (c.step.ensures.answers m is).passes c.step.ensures.wrote c.in-Ok.ensures.around (c.step.ensures.resizes m is)
-          c.step.ensures.unlabelled;
+          call_apart m c.in-Call.call false is.session.stands.is.by.machine c.in-None.ensures (c.step.ensures.machine m is).answers.passes c.step.ensures.writes.wrote c.in-Ok.ensures.writes.around ((c.step.ensures.machine m is).resizes)
+          c.step.ensures.writes.unlabelled;
     }
 
 -- the call stopped the session
@@ -103,26 +104,26 @@ returns-in-Err-clause-turns g c =
       c.in-Call.ensures.next begun,
       more,
       λ m is. (
-        line_step m c.in-Call.call ((c.step.ensures.answers m is).passes),
-        call_costs c.in-Call.call (state c.args.session.now.core).disk (state c.step.new.self.core).disk c.step.ensures.reference ((c.step.ensures.answers m is).cost),
+        line_step m c.in-Call.call ((c.step.ensures.machine m is).answers.passes),
+        call_costs c.in-Call.call (state c.args.session.now.core).disk (state c.step.new.self.core).disk c.step.ensures.reference ((c.step.ensures.machine m is).answers.cost),
         λ going. absurd going,
       ),
-      call_done c.args.session.now.volume.root c.in-Call.call (line_wrote c.args.session.now.volume.root c.in-Call.call more c.step.ensures.wrote c.step.ensures.own.0) c.step.ensures.wrote c.step.ensures.spares
-          (λ id client other free is. (λ going. absurd going, hidden_makes c.args.session.now c.step.new.self c.in-Call.call id client is c.step.ensures.shown)),
+      call_done c.args.session.now.volume.root c.in-Call.call (line_wrote c.args.session.now.volume.root c.in-Call.call more c.step.ensures.writes.wrote c.step.ensures.writes.own.0) c.step.ensures.writes.wrote c.step.ensures.writes.spares
+          (λ id client other free is. (λ going. absurd going, hidden_makes c.args.session.now c.step.new.self c.in-Call.call id client is c.step.ensures.writes.shown)),
     )
 
 pub returns-in-Err-clause-stops : goal.returns-in-Err-clause-stops
 returns-in-Err-clause-stops g c =
-    let fails = c.in-Err.ensures.fails in
+    let fails = c.in-Err.ensures.halts.fails in
     record {
-      sound = λ m why is same. sym (same_halt c.in-Err.halt why same) ∙ (c.in-Err.ensures.answers m is).sound;
+      sound = λ m why is same. sym (same_halt c.in-Err.halt why same) ∙ (c.in-Err.ensures.machine m is).answers.sound;
       counted = λ same. fails.counted (same_halt c.in-Err.halt halt.Disk same);
       evidence_seen = λ why same. subst (λ (h : Halt). ShowsEvidence (state c.step.new.self.core).disk h) (same_halt c.in-Err.halt why same) fails.evidence_seen;
     }
 
 pub returns-in-Err-clause-accounts : goal.returns-in-Err-clause-accounts
 returns-in-Err-clause-accounts g c = λ o keeps not_older.
-    let e = c.in-Err.ensures.accounts o keeps not_older in
+    let e = (c.in-Err.ensures.accounts o keeps not_older).accounts in
     let disk = (state c.step.new.self.core).disk in
     record {
       keeps_to = λ going. absurd going;
@@ -135,23 +136,23 @@ pub returns-in-Err-clause-stays : goal.returns-in-Err-clause-stays
 returns-in-Err-clause-stays g c = record {
   idle = λ idle. absurd idle;
   going = λ going. absurd going;
-  open_still = c.step.ensures.stays.open_still;
-  layout = c.step.ensures.stays.layout;
+  open_still = c.step.ensures.remains.stays.open_still;
+  layout = c.step.ensures.remains.stays.layout;
 }
 
 pub returns-in-Err-clause-writes : goal.returns-in-Err-clause-writes
 returns-in-Err-clause-writes g c =
     let root = c.args.session.now.volume.root in
     record {
-      wrote = call_wrote c.in-Call.call c.step.ensures.wrote;
+      wrote = call_wrote c.in-Call.call c.step.ensures.writes.wrote;
       roots = record {
-        monotone = (c.step.ensures.stays.monotone, c.step.ensures.stays.serial);
+        monotone = (c.step.ensures.remains.stays.monotone, c.step.ensures.remains.stays.serial);
         raises = λ goes. absurd goes;
-        counts = raises_call root (counted root) c.in-Call.call c.requires.ready.opened.valid.serial (counted_up root) c.step.ensures.wrote c.step.ensures.own.0;
+        counts = raises_call root (counted root) c.in-Call.call c.requires.ready.opened.valid.serial (counted_up root) c.step.ensures.writes.wrote c.step.ensures.writes.own.0;
       };
       apart = λ m is.
-          call_apart m c.in-Call.call true is.session.stands.is.by.machine c.in-None.ensures (c.step.ensures.answers m is).passes c.step.ensures.wrote c.in-Err.ensures.around (c.step.ensures.resizes m is)
-          c.step.ensures.unlabelled;
+          call_apart m c.in-Call.call true is.session.stands.is.by.machine c.in-None.ensures (c.step.ensures.machine m is).answers.passes c.step.ensures.writes.wrote c.in-Err.ensures.writes.around ((c.step.ensures.machine m is).resizes)
+          c.step.ensures.writes.unlabelled;
     }
 
 -- a bad line

@@ -21,15 +21,15 @@ returns-in-Ok g c =
     let left = g.D.Disk.state c.finish-closed.result.1 in
     let f = c.finish-closed.ensures in
     record {
-      closed = λ m stands. (left, refl, subst (λ (r : Result (Unit {0}) Halt). OnOk r (HasShut m left)) c.in-Ok.is (f.closed m (runs_of h live s m had same stands)));
+      closed = λ m stands. (left, refl, subst (λ (r : Result (Unit {0}) Halt). OnOk r (HasShut m left)) c.in-Ok.is ((f.machine m (runs_of h live s m had same stands)).closed));
       sound = λ m stands. tt;
-      stops = λ m stands. ended_between (Throughout (IsStop m)) h live s left had same (f.stops m (runs_of h live s m had same stands));
-      synced = ((left, refl, subst (λ (r : Result (Unit {0}) Halt). OnOk r (left.synced ≡ true)) c.in-Ok.is f.synced), c.take_session.ensures.halt);
+      stops = λ m stands. ended_between (Throughout (IsStop m)) h live s left had same ((f.machine m (runs_of h live s m had same stands)).stops);
+      synced = ((left, refl, subst (λ (r : Result (Unit {0}) Halt). OnOk r (left.synced ≡ true)) c.in-Ok.is f.writes.synced), c.take_session.ensures.halt);
       stopped = λ why is. absurd (cc is);
       cause = λ is. absurd (cc is);
       none = λ closed. absurd (cc (had_open h live had c.in-Some.ensures.session.1, closed));
       ended = refl;
-      later = ended_later h live s left had same (record { sectors = f.wrote.went.sectors; faults = f.wrote.went.faults });
+      later = ended_later h live s left had same (record { sectors = f.writes.wrote.went.sectors; faults = f.writes.wrote.went.faults });
     }
 
 pub returns-in-Err : goal.returns-in-Err
@@ -44,20 +44,20 @@ returns-in-Err g c =
     record {
       closed = λ m stands. tt;
       sound = λ m stands.
-          ap (λ (x : Halt). code.Halted x) (subst (λ (r : Result (Unit {0}) Halt). IfErr r (λ e. e ≡ halt.Disk)) c.in-Err.is (f.sound m (runs_of h live s m had same stands)));
-      stops = λ m stands. ended_between (Throughout (IsStop m)) h live s left had same (f.stops m (runs_of h live s m had same stands));
+          ap (λ (x : Halt). code.Halted x) (subst (λ (r : Result (Unit {0}) Halt). IfErr r (λ e. e ≡ halt.Disk)) c.in-Err.is ((f.machine m (runs_of h live s m had same stands)).sound));
+      stops = λ m stands. ended_between (Throughout (IsStop m)) h live s left had same ((f.machine m (runs_of h live s m had same stands)).stops);
       synced = tt;
       stopped = λ why is.
           let it : c.in-Err.halt ≡ why = cc is in
           record {
             closed = refl;
             kept = ap (λ (x : Halt). Some x) it;
-            evident = subst (λ (x : Halt). ShowsEvidence left x) it (subst (λ (r : Result (Unit {0}) Halt). IfErr r (ShowsEvidence left)) c.in-Err.is f.evidence_seen);
+            evident = subst (λ (x : Halt). ShowsEvidence left x) it (subst (λ (r : Result (Unit {0}) Halt). IfErr r (ShowsEvidence left)) c.in-Err.is f.halts.evidence_seen);
           };
       cause = λ is.
           ended_between (λ before after. Rose before.faults after.faults) h live s left had same
-          (f.counted (c.in-Err.is ∙ ap (λ (x : Halt). Err x) (cc is)));
+          (f.halts.counted (c.in-Err.is ∙ ap (λ (x : Halt). Err x) (cc is)));
       none = λ closed. absurd (cc (had_open h live had c.in-Some.ensures.session.1, closed));
       ended = refl;
-      later = ended_later h live s left had same (record { sectors = f.wrote.went.sectors; faults = f.wrote.went.faults });
+      later = ended_later h live s left had same (record { sectors = f.writes.wrote.went.sectors; faults = f.writes.wrote.went.faults });
     }

@@ -24,16 +24,16 @@ returns-in-Ok-over g c =
       left = left;
       disk_is = same_disk c.of.result c.in-Ok-over.session c.of.ensures;
       runs = record {
-        running = open_of c.of.result c.in-Ok-over.session c.of.ensures s.running;
-        all_frames = frames_of c.of.result c.in-Ok-over.session c.args.frames c.of.ensures s.frames;
+        running = open_of c.of.result c.in-Ok-over.session c.of.ensures s.session.takes.running;
+        all_frames = frames_of c.of.result c.in-Ok-over.session c.args.frames c.of.ensures s.session.frames;
         no_halt = refl;
       };
-      stands = λ d revealed sound. stands_of c.of.result c.in-Ok-over.session (start d) c.of.ensures s.running (s.stands d revealed sound);
+      stands = λ d revealed sound. stands_of c.of.result c.in-Ok-over.session (start d) c.of.ensures s.session.takes.running ((s.machine d revealed sound).stands);
       refuses = tt;
       judges = record {
-        count = λ not. absurd (s.count not);
+        count = λ not. absurd (s.refuses.count not);
         bad_count = λ n is. absurd (cc is);
-        refused = λ d why revealed is. absurd (s.refused d why revealed is);
+        refused = λ d why revealed is. absurd (s.refuses.refused d why revealed is);
         judged = λ d revealed. tt;
         sound = λ d revealed sound. tt;
       };
@@ -41,10 +41,10 @@ returns-in-Ok-over g c =
         unwritten = tt;
         counted = tt;
         evident = tt;
-        crash_states = s.crash_states;
-        synced = s.synced;
-        later = record { sectors = s.wrote.went.sectors; faults = s.wrote.went.faults };
-        cost = s.cost;
+        crash_states = s.writes.crash_states;
+        synced = s.writes.synced;
+        later = record { sectors = s.writes.wrote.went.sectors; faults = s.writes.wrote.went.faults };
+        cost = s.spends.cost;
       };
     })
 
@@ -62,19 +62,19 @@ returns-in-Err-over g c =
       stands = λ d revealed sound. tt;
       refuses = record { free = refl; halt_is = c.halt_of-self.ensures };
       judges = record {
-        count = λ not. ap (λ (w : StartFault). Err w) (s.count not);
-        bad_count = λ n is. s.bad_count n (cc is);
-        refused = λ d why revealed is. either_outcome (s.refused d why revealed is);
-        judged = s.judged;
-        sound = s.sound;
+        count = λ not. ap (λ (w : StartFault). Err w) (s.refuses.count not);
+        bad_count = λ n is. s.refuses.bad_count n (cc is);
+        refused = λ d why revealed is. either_outcome (s.refuses.refused d why revealed is);
+        judged = s.refuses.judged;
+        sound = λ d revealed sound. (s.machine d revealed sound).sound;
       };
       leaves = record {
-        unwritten = s.unwritten;
-        counted = s.counted;
-        evident = s.evidence_seen;
-        crash_states = s.crash_states;
+        unwritten = s.fails.unwritten;
+        counted = s.fails.counted;
+        evident = s.fails.evidence_seen;
+        crash_states = s.writes.crash_states;
         synced = tt;
-        later = record { sectors = s.wrote.went.sectors; faults = s.wrote.went.faults };
-        cost = s.cost;
+        later = record { sectors = s.writes.wrote.went.sectors; faults = s.writes.wrote.went.faults };
+        cost = s.spends.cost;
       };
     })

@@ -5,14 +5,14 @@ use Rattle.filer_kernel.specs.FailsLaws.{counted_in, evidence_seen_in}
 
 pub returns : goal.returns
 returns g c = record {
-  carried = λ m r. (c.step.ensures.answers m r).carried;
-  sound = λ m r. (c.step.ensures.answers m r).sound;
-  passes = λ m r. (c.step.ensures.answers m r).passes;
-  forced = λ m waits free r. c.step.ensures.forced m waits free r;
-  counted = (counted_in _ _ _ c.step.result c.step.ensures.fails);
-  evidence_seen = (evidence_seen_in _ _ _ c.step.result c.step.ensures.fails);
-  goes_on = c.step.ensures.goes_on;
-  later = record { sectors = c.step.ensures.wrote.makes.went.sectors; faults = c.step.ensures.wrote.makes.went.faults };
-  cost = λ m r. (c.step.ensures.answers m r).cost;
+  carried = λ m r. (c.step.ensures.machine m r).answers.carried;
+  sound = λ m r. (c.step.ensures.machine m r).answers.sound;
+  passes = λ m r. (c.step.ensures.machine m r).answers.passes;
+  forced = λ m waits free r. (c.step.ensures.machine m r).forced waits free;
+  counted = (counted_in _ _ _ c.step.result c.step.ensures.halts.fails);
+  evidence_seen = (evidence_seen_in _ _ _ c.step.result c.step.ensures.halts.fails);
+  goes_on = c.step.ensures.remains.goes_on;
+  later = record { sectors = c.step.ensures.writes.wrote.makes.went.sectors; faults = c.step.ensures.writes.wrote.makes.went.faults };
+  cost = λ m r. (c.step.ensures.machine m r).answers.cost;
   few = c.step.ensures.reference;
 }

@@ -1,9 +1,8 @@
-use Rattle.std.proofs.Common.{◌≡◌, refl, sym, ap, ◌∙◌, arith}
+use Rattle.std.proofs.Common.{refl, sym, ap, ◌∙◌, arith}
 use Rattle.std.proofs.lemmas.Bool.{true≢false}
 use Rattle.std.proofs.lemmas.Option.{same_Some}
 use Rattle.labelled_disk.specs.File.{file_at}
 use Rattle.flat_machine.specs.References.{is_reference}
-use Rattle.pilot_engine.specs.Stepping.{resizes, writes_leader}
 use Rattle.fault_core.specs.Core.{state}
 use Rattle.swapper_kernel.specs.Goes.{no_page}
 use Rattle.file_manager.specs.Creating.{next_id}
@@ -14,11 +13,11 @@ use Rattle.pilot_engine.proofs.BoundLemmas.{asked_inside, spent_inside}
 use Rattle.pilot_engine.proofs.LiftLemmas.{carried_out}
 use Rattle.pilot_engine.proofs.StepLemmas.{on_spaces}
 use Rattle.flat_machine.specs.declared.call.Call.TheVariants as call
-use Rattle.pilot_engine.proofs.OwnLemmas.{around_other, no_leader, no_resize, resizes_none}
+use Rattle.pilot_engine.proofs.OwnLemmas.{around_other}
 use Rattle.pilot_engine.proofs.LackLemmas.{fails_missing_page, mark_misses, named_misses, new_misses, on_named_misses, pages_of, remove_misses, size_misses}
 use Rattle.pilot_engine.proofs.SpaceMisses.{next_misses}
 use Rattle.pilot_engine.proofs.ReferLemmas.{ok_always}
-use Rattle.pilot_engine.proofs.CallSteps.{asked_all, file_all, new_accounts, new_all, plain_accounts, plain_all}
+use Rattle.pilot_engine.proofs.CallSteps.{asked_all, file_all, new_accounts, new_all, plain_accounts, plain_all, sized_all}
 use Rattle.pilot_engine.proofs.session.Session.answer.Goals as goal
 use Rattle.filer_kernel.specs.FailsLaws.{cause_in}
 
@@ -26,7 +25,7 @@ use Rattle.filer_kernel.specs.FailsLaws.{cause_in}
 
 pub returns-in-Create-clause-machine : goal.returns-in-Create-clause-machine
 returns-in-Create-clause-machine g c =
-    λ m r. rw c.in-Create.is (plain_all (call.Create c.in-Create.pages c.in-Create.kind) c.create.result refl (λ kept slots resident. resident) (λ kept slots. tt) (record {
+    λ m r. rw c.in-Create.is (plain_all (call.Create c.in-Create.pages c.in-Create.kind) c.create.result refl (λ kept slots resident. resident) (λ kept slots. tt) refl (record {
       carried = ((carried_out c.args.self.now.core c.create.new.self.core c.args.self.now.volume c.create.new.self.volume m (call.Create c.in-Create.pages c.in-Create.kind) c.create.ensures.remains.kept c.create.ensures.remains.intervals refl r c.create.result (λ spaces_of s. (c.create.ensures.answers spaces_of m s).carried)));
       sound = (c.create.ensures.sound _ m r.session);
       passes = (((c.create.ensures.answers _ m r.session).passes));
@@ -44,7 +43,7 @@ pub returns-in-Create-clause-accounts : goal.returns-in-Create-clause-accounts
 returns-in-Create-clause-accounts g c = λ o k n. new_accounts c.args.call.now c.create.result c.create.ensures.writes o (c.create.ensures.accounts o k n)
 
 pub returns-in-Create-clause-writes : goal.returns-in-Create-clause-writes
-returns-in-Create-clause-writes g c = rw c.in-Create.is (new_all (call.Create c.in-Create.pages c.in-Create.kind) c.create.result c.create.ensures.writes.wrote (λ ss s. c.create.ensures.writes.wrote) refl c.create.ensures.writes)
+returns-in-Create-clause-writes g c = rw c.in-Create.is (new_all (call.Create c.in-Create.pages c.in-Create.kind) c.create.result c.create.ensures.writes.wrote (λ ss s. c.create.ensures.writes.wrote) refl refl c.create.ensures.writes)
 
 pub returns-in-Create-clause-remains : goal.returns-in-Create-clause-remains
 returns-in-Create-clause-remains g c = record { stays = c.create.ensures.remains.stays; running = c.create.ensures.remains.running }
@@ -52,16 +51,10 @@ returns-in-Create-clause-remains g c = record { stays = c.create.ensures.remains
 pub returns-in-Create-clause-reference : goal.returns-in-Create-clause-reference
 returns-in-Create-clause-reference g c = λ revealed. absurd (true≢false (sym revealed ∙ ap is_reference c.in-Create.is))
 
-pub returns-in-Create-clause-around : goal.returns-in-Create-clause-around
-returns-in-Create-clause-around g c = around_other c.args.call.now (ap writes_leader c.in-Create.is)
-
-pub returns-in-Create-clause-resizes : goal.returns-in-Create-clause-resizes
-returns-in-Create-clause-resizes g c = λ m r id f is. resizes_none c.args.call.now id (ap resizes c.in-Create.is) is
-
 -- ---- Delete.
 
 pub returns-in-Delete-clause-machine : goal.returns-in-Delete-clause-machine
-returns-in-Delete-clause-machine g c = λ m r. rw c.in-Delete.is (plain_all (call.Delete c.in-Delete.id) c.delete.result refl (λ kept slots resident. resident) (λ kept slots. tt) (c.delete.ensures.answers m r))
+returns-in-Delete-clause-machine g c = λ m r. rw c.in-Delete.is (plain_all (call.Delete c.in-Delete.id) c.delete.result refl (λ kept slots resident. resident) (λ kept slots. tt) refl (c.delete.ensures.answers m r))
 
 pub returns-in-Delete-clause-halts : goal.returns-in-Delete-clause-halts
 returns-in-Delete-clause-halts g c = rw c.in-Delete.is (record {
@@ -73,7 +66,7 @@ pub returns-in-Delete-clause-accounts : goal.returns-in-Delete-clause-accounts
 returns-in-Delete-clause-accounts g c = plain_accounts c.args.call.now c.delete.result c.delete.ensures.remains.stays c.delete.ensures.accounts
 
 pub returns-in-Delete-clause-writes : goal.returns-in-Delete-clause-writes
-returns-in-Delete-clause-writes g c = rw c.in-Delete.is (file_all (call.Delete c.in-Delete.id) c.delete.result c.delete.ensures.writes.wrote (λ ss s. c.delete.ensures.writes.wrote) refl refl c.delete.ensures.writes)
+returns-in-Delete-clause-writes g c = rw c.in-Delete.is (file_all (call.Delete c.in-Delete.id) c.delete.result c.delete.ensures.writes.wrote (λ ss s. c.delete.ensures.writes.wrote) refl refl (λ is. c.delete.ensures.around) c.delete.ensures.writes)
 
 pub returns-in-Delete-clause-remains : goal.returns-in-Delete-clause-remains
 returns-in-Delete-clause-remains g c = c.delete.ensures.remains
@@ -81,16 +74,10 @@ returns-in-Delete-clause-remains g c = c.delete.ensures.remains
 pub returns-in-Delete-clause-reference : goal.returns-in-Delete-clause-reference
 returns-in-Delete-clause-reference g c = λ revealed. absurd (true≢false (sym revealed ∙ ap is_reference c.in-Delete.is))
 
-pub returns-in-Delete-clause-around : goal.returns-in-Delete-clause-around
-returns-in-Delete-clause-around g c = λ is. c.delete.ensures.around
-
-pub returns-in-Delete-clause-resizes : goal.returns-in-Delete-clause-resizes
-returns-in-Delete-clause-resizes g c = λ m r id f is. resizes_none c.args.call.now id (ap resizes c.in-Delete.is) is
-
 -- ---- Attributes.
 
 pub returns-in-Attributes-clause-machine : goal.returns-in-Attributes-clause-machine
-returns-in-Attributes-clause-machine g c = λ m r. rw c.in-Attributes.is (plain_all (call.Attributes c.in-Attributes.id) c.attributes.result refl (λ kept slots resident. resident) (λ kept slots. tt) (c.attributes.ensures.answers m r))
+returns-in-Attributes-clause-machine g c = λ m r. rw c.in-Attributes.is (plain_all (call.Attributes c.in-Attributes.id) c.attributes.result refl (λ kept slots resident. resident) (λ kept slots. tt) refl (c.attributes.ensures.answers m r))
 
 pub returns-in-Attributes-clause-halts : goal.returns-in-Attributes-clause-halts
 returns-in-Attributes-clause-halts g c = rw c.in-Attributes.is (record {
@@ -102,7 +89,7 @@ pub returns-in-Attributes-clause-accounts : goal.returns-in-Attributes-clause-ac
 returns-in-Attributes-clause-accounts g c = plain_accounts c.args.call.now c.attributes.result c.attributes.ensures.remains.stays c.attributes.ensures.accounts
 
 pub returns-in-Attributes-clause-writes : goal.returns-in-Attributes-clause-writes
-returns-in-Attributes-clause-writes g c = rw c.in-Attributes.is (asked_all (call.Attributes c.in-Attributes.id) c.attributes.result c.attributes.ensures.writes.wrote (λ ss s. c.attributes.ensures.writes.wrote) c.attributes.ensures.writes)
+returns-in-Attributes-clause-writes g c = rw c.in-Attributes.is (asked_all (call.Attributes c.in-Attributes.id) c.attributes.result c.attributes.ensures.writes.wrote (λ ss s. c.attributes.ensures.writes.wrote) refl c.attributes.ensures.writes)
 
 pub returns-in-Attributes-clause-remains : goal.returns-in-Attributes-clause-remains
 returns-in-Attributes-clause-remains g c = c.attributes.ensures.remains
@@ -110,16 +97,12 @@ returns-in-Attributes-clause-remains g c = c.attributes.ensures.remains
 pub returns-in-Attributes-clause-reference : goal.returns-in-Attributes-clause-reference
 returns-in-Attributes-clause-reference g c = λ revealed. absurd (true≢false (sym revealed ∙ ap is_reference c.in-Attributes.is))
 
-pub returns-in-Attributes-clause-around : goal.returns-in-Attributes-clause-around
-returns-in-Attributes-clause-around g c = around_other c.args.call.now (ap writes_leader c.in-Attributes.is)
-
-pub returns-in-Attributes-clause-resizes : goal.returns-in-Attributes-clause-resizes
-returns-in-Attributes-clause-resizes g c = λ m r id f is. resizes_none c.args.call.now id (ap resizes c.in-Attributes.is) is
-
 -- ---- SetSize.
 
 pub returns-in-SetSize-clause-machine : goal.returns-in-SetSize-clause-machine
-returns-in-SetSize-clause-machine g c = λ m r. rw c.in-SetSize.is (plain_all (call.SetSize c.in-SetSize.id c.in-SetSize.pages) c.set_size.result refl (λ kept slots resident. resident) (λ kept slots. tt) (c.set_size.ensures.answers m r))
+returns-in-SetSize-clause-machine g c = λ m r.
+    rw c.in-SetSize.is (sized_all (call.SetSize c.in-SetSize.id c.in-SetSize.pages) c.set_size.result refl (λ kept slots resident. resident) (λ kept slots. tt)
+    (λ id f is found. c.set_size.ensures.after_sync m f r (ap (file_at m.files) (same_Some c.in-SetSize.id id is) ∙ found)) (c.set_size.ensures.answers m r))
 
 pub returns-in-SetSize-clause-halts : goal.returns-in-SetSize-clause-halts
 returns-in-SetSize-clause-halts g c = rw c.in-SetSize.is (record {
@@ -131,7 +114,7 @@ pub returns-in-SetSize-clause-accounts : goal.returns-in-SetSize-clause-accounts
 returns-in-SetSize-clause-accounts g c = plain_accounts c.args.call.now c.set_size.result c.set_size.ensures.remains.stays c.set_size.ensures.accounts
 
 pub returns-in-SetSize-clause-writes : goal.returns-in-SetSize-clause-writes
-returns-in-SetSize-clause-writes g c = rw c.in-SetSize.is (file_all (call.SetSize c.in-SetSize.id c.in-SetSize.pages) c.set_size.result c.set_size.ensures.writes.wrote (λ ss s. c.set_size.ensures.writes.wrote) refl refl c.set_size.ensures.writes)
+returns-in-SetSize-clause-writes g c = rw c.in-SetSize.is (file_all (call.SetSize c.in-SetSize.id c.in-SetSize.pages) c.set_size.result c.set_size.ensures.writes.wrote (λ ss s. c.set_size.ensures.writes.wrote) refl refl (around_other (call.SetSize c.in-SetSize.id c.in-SetSize.pages) refl) c.set_size.ensures.writes)
 
 pub returns-in-SetSize-clause-remains : goal.returns-in-SetSize-clause-remains
 returns-in-SetSize-clause-remains g c = c.set_size.ensures.remains
@@ -139,18 +122,10 @@ returns-in-SetSize-clause-remains g c = c.set_size.ensures.remains
 pub returns-in-SetSize-clause-reference : goal.returns-in-SetSize-clause-reference
 returns-in-SetSize-clause-reference g c = λ revealed. absurd (true≢false (sym revealed ∙ ap is_reference c.in-SetSize.is))
 
-pub returns-in-SetSize-clause-around : goal.returns-in-SetSize-clause-around
-returns-in-SetSize-clause-around g c = around_other c.args.call.now (ap writes_leader c.in-SetSize.is)
-
-pub returns-in-SetSize-clause-resizes : goal.returns-in-SetSize-clause-resizes
-returns-in-SetSize-clause-resizes g c = λ m r id f is found.
-    let same : c.in-SetSize.id ≡ id = same_Some c.in-SetSize.id id (sym (ap resizes c.in-SetSize.is) ∙ is) in
-    c.set_size.ensures.after_sync m f r (ap (file_at m.files) same ∙ found)
-
 -- ---- MakePermanent.
 
 pub returns-in-MakePermanent-clause-machine : goal.returns-in-MakePermanent-clause-machine
-returns-in-MakePermanent-clause-machine g c = λ m r. rw c.in-MakePermanent.is (plain_all (call.MakePermanent c.in-MakePermanent.id) c.make_permanent.result refl (λ kept slots resident. resident) (λ kept slots. tt) (c.make_permanent.ensures.answers m r))
+returns-in-MakePermanent-clause-machine g c = λ m r. rw c.in-MakePermanent.is (plain_all (call.MakePermanent c.in-MakePermanent.id) c.make_permanent.result refl (λ kept slots resident. resident) (λ kept slots. tt) refl (c.make_permanent.ensures.answers m r))
 
 pub returns-in-MakePermanent-clause-halts : goal.returns-in-MakePermanent-clause-halts
 returns-in-MakePermanent-clause-halts g c = rw c.in-MakePermanent.is (record {
@@ -162,7 +137,7 @@ pub returns-in-MakePermanent-clause-accounts : goal.returns-in-MakePermanent-cla
 returns-in-MakePermanent-clause-accounts g c = plain_accounts c.args.call.now c.make_permanent.result c.make_permanent.ensures.remains.stays c.make_permanent.ensures.accounts
 
 pub returns-in-MakePermanent-clause-writes : goal.returns-in-MakePermanent-clause-writes
-returns-in-MakePermanent-clause-writes g c = rw c.in-MakePermanent.is (file_all (call.MakePermanent c.in-MakePermanent.id) c.make_permanent.result c.make_permanent.ensures.writes.wrote (λ ss s. c.make_permanent.ensures.writes.wrote) refl refl c.make_permanent.ensures.writes)
+returns-in-MakePermanent-clause-writes g c = rw c.in-MakePermanent.is (file_all (call.MakePermanent c.in-MakePermanent.id) c.make_permanent.result c.make_permanent.ensures.writes.wrote (λ ss s. c.make_permanent.ensures.writes.wrote) refl refl (λ is. c.make_permanent.ensures.around) c.make_permanent.ensures.writes)
 
 pub returns-in-MakePermanent-clause-remains : goal.returns-in-MakePermanent-clause-remains
 returns-in-MakePermanent-clause-remains g c = c.make_permanent.ensures.remains
@@ -170,16 +145,10 @@ returns-in-MakePermanent-clause-remains g c = c.make_permanent.ensures.remains
 pub returns-in-MakePermanent-clause-reference : goal.returns-in-MakePermanent-clause-reference
 returns-in-MakePermanent-clause-reference g c = λ revealed. absurd (true≢false (sym revealed ∙ ap is_reference c.in-MakePermanent.is))
 
-pub returns-in-MakePermanent-clause-around : goal.returns-in-MakePermanent-clause-around
-returns-in-MakePermanent-clause-around g c = λ is. c.make_permanent.ensures.around
-
-pub returns-in-MakePermanent-clause-resizes : goal.returns-in-MakePermanent-clause-resizes
-returns-in-MakePermanent-clause-resizes g c = λ m r id f is. resizes_none c.args.call.now id (ap resizes c.in-MakePermanent.is) is
-
 -- ---- MakeImmutable.
 
 pub returns-in-MakeImmutable-clause-machine : goal.returns-in-MakeImmutable-clause-machine
-returns-in-MakeImmutable-clause-machine g c = λ m r. rw c.in-MakeImmutable.is (plain_all (call.MakeImmutable c.in-MakeImmutable.id) c.make_immutable.result refl (λ kept slots resident. resident) (λ kept slots. tt) (c.make_immutable.ensures.answers m r))
+returns-in-MakeImmutable-clause-machine g c = λ m r. rw c.in-MakeImmutable.is (plain_all (call.MakeImmutable c.in-MakeImmutable.id) c.make_immutable.result refl (λ kept slots resident. resident) (λ kept slots. tt) refl (c.make_immutable.ensures.answers m r))
 
 pub returns-in-MakeImmutable-clause-halts : goal.returns-in-MakeImmutable-clause-halts
 returns-in-MakeImmutable-clause-halts g c = rw c.in-MakeImmutable.is (record {
@@ -191,7 +160,7 @@ pub returns-in-MakeImmutable-clause-accounts : goal.returns-in-MakeImmutable-cla
 returns-in-MakeImmutable-clause-accounts g c = plain_accounts c.args.call.now c.make_immutable.result c.make_immutable.ensures.remains.stays c.make_immutable.ensures.accounts
 
 pub returns-in-MakeImmutable-clause-writes : goal.returns-in-MakeImmutable-clause-writes
-returns-in-MakeImmutable-clause-writes g c = rw c.in-MakeImmutable.is (file_all (call.MakeImmutable c.in-MakeImmutable.id) c.make_immutable.result c.make_immutable.ensures.writes.wrote (λ ss s. c.make_immutable.ensures.writes.wrote) refl refl c.make_immutable.ensures.writes)
+returns-in-MakeImmutable-clause-writes g c = rw c.in-MakeImmutable.is (file_all (call.MakeImmutable c.in-MakeImmutable.id) c.make_immutable.result c.make_immutable.ensures.writes.wrote (λ ss s. c.make_immutable.ensures.writes.wrote) refl refl (λ is. c.make_immutable.ensures.around) c.make_immutable.ensures.writes)
 
 pub returns-in-MakeImmutable-clause-remains : goal.returns-in-MakeImmutable-clause-remains
 returns-in-MakeImmutable-clause-remains g c = c.make_immutable.ensures.remains
@@ -199,16 +168,10 @@ returns-in-MakeImmutable-clause-remains g c = c.make_immutable.ensures.remains
 pub returns-in-MakeImmutable-clause-reference : goal.returns-in-MakeImmutable-clause-reference
 returns-in-MakeImmutable-clause-reference g c = λ revealed. absurd (true≢false (sym revealed ∙ ap is_reference c.in-MakeImmutable.is))
 
-pub returns-in-MakeImmutable-clause-around : goal.returns-in-MakeImmutable-clause-around
-returns-in-MakeImmutable-clause-around g c = λ is. c.make_immutable.ensures.around
-
-pub returns-in-MakeImmutable-clause-resizes : goal.returns-in-MakeImmutable-clause-resizes
-returns-in-MakeImmutable-clause-resizes g c = λ m r id f is. resizes_none c.args.call.now id (ap resizes c.in-MakeImmutable.is) is
-
 -- ---- Next.
 
 pub returns-in-Next-clause-machine : goal.returns-in-Next-clause-machine
-returns-in-Next-clause-machine g c = λ m r. rw c.in-Next.is (plain_all (call.Next c.in-Next.id) c.next.result refl (λ kept slots resident. resident) (λ kept slots. tt) (c.next.ensures.answers m r))
+returns-in-Next-clause-machine g c = λ m r. rw c.in-Next.is (plain_all (call.Next c.in-Next.id) c.next.result refl (λ kept slots resident. resident) (λ kept slots. tt) refl (c.next.ensures.answers m r))
 
 pub returns-in-Next-clause-halts : goal.returns-in-Next-clause-halts
 returns-in-Next-clause-halts g c = rw c.in-Next.is (record {
@@ -220,7 +183,7 @@ pub returns-in-Next-clause-accounts : goal.returns-in-Next-clause-accounts
 returns-in-Next-clause-accounts g c = plain_accounts c.args.call.now c.next.result c.next.ensures.remains.stays c.next.ensures.accounts
 
 pub returns-in-Next-clause-writes : goal.returns-in-Next-clause-writes
-returns-in-Next-clause-writes g c = rw c.in-Next.is (asked_all (call.Next c.in-Next.id) c.next.result c.next.ensures.writes.wrote (λ ss s. c.next.ensures.writes.wrote) c.next.ensures.writes)
+returns-in-Next-clause-writes g c = rw c.in-Next.is (asked_all (call.Next c.in-Next.id) c.next.result c.next.ensures.writes.wrote (λ ss s. c.next.ensures.writes.wrote) refl c.next.ensures.writes)
 
 pub returns-in-Next-clause-remains : goal.returns-in-Next-clause-remains
 returns-in-Next-clause-remains g c = c.next.ensures.remains
@@ -228,17 +191,11 @@ returns-in-Next-clause-remains g c = c.next.ensures.remains
 pub returns-in-Next-clause-reference : goal.returns-in-Next-clause-reference
 returns-in-Next-clause-reference g c = λ revealed. absurd (true≢false (sym revealed ∙ ap is_reference c.in-Next.is))
 
-pub returns-in-Next-clause-around : goal.returns-in-Next-clause-around
-returns-in-Next-clause-around g c = around_other c.args.call.now (ap writes_leader c.in-Next.is)
-
-pub returns-in-Next-clause-resizes : goal.returns-in-Next-clause-resizes
-returns-in-Next-clause-resizes g c = λ m r id f is. resizes_none c.args.call.now id (ap resizes c.in-Next.is) is
-
 -- ---- Volume.
 
 pub returns-in-Volume-clause-machine : goal.returns-in-Volume-clause-machine
 returns-in-Volume-clause-machine g c =
-    λ m r. rw c.in-Volume.is (plain_all call.Volume c.volume.result refl (λ kept slots resident. resident) (λ kept slots. tt) (record {
+    λ m r. rw c.in-Volume.is (plain_all call.Volume c.volume.result refl (λ kept slots resident. resident) (λ kept slots. tt) refl (record {
       carried = ((carried_out c.args.self.now.core c.volume.new.self.core c.args.self.now.volume c.volume.new.self.volume m call.Volume c.volume.ensures.remains.kept c.volume.ensures.remains.intervals refl r c.volume.result (λ spaces_of s. (c.volume.ensures.answers spaces_of m s).carried)));
       sound = (c.volume.ensures.sound _ m r.session);
       passes = (((c.volume.ensures.answers _ m r.session).passes));
@@ -256,7 +213,7 @@ pub returns-in-Volume-clause-accounts : goal.returns-in-Volume-clause-accounts
 returns-in-Volume-clause-accounts g c = plain_accounts c.args.call.now c.volume.result c.volume.ensures.remains.stays c.volume.ensures.accounts
 
 pub returns-in-Volume-clause-writes : goal.returns-in-Volume-clause-writes
-returns-in-Volume-clause-writes g c = rw c.in-Volume.is (asked_all call.Volume c.volume.result c.volume.ensures.writes.wrote (λ ss s. c.volume.ensures.writes.wrote) c.volume.ensures.writes)
+returns-in-Volume-clause-writes g c = rw c.in-Volume.is (asked_all call.Volume c.volume.result c.volume.ensures.writes.wrote (λ ss s. c.volume.ensures.writes.wrote) refl c.volume.ensures.writes)
 
 pub returns-in-Volume-clause-remains : goal.returns-in-Volume-clause-remains
 returns-in-Volume-clause-remains g c = record { stays = c.volume.ensures.remains.stays; running = c.volume.ensures.remains.running }
@@ -264,19 +221,7 @@ returns-in-Volume-clause-remains g c = record { stays = c.volume.ensures.remains
 pub returns-in-Volume-clause-reference : goal.returns-in-Volume-clause-reference
 returns-in-Volume-clause-reference g c = λ revealed. absurd (true≢false (sym revealed ∙ ap is_reference c.in-Volume.is))
 
-pub returns-in-Volume-clause-around : goal.returns-in-Volume-clause-around
-returns-in-Volume-clause-around g c = around_other c.args.call.now (ap writes_leader c.in-Volume.is)
-
-pub returns-in-Volume-clause-resizes : goal.returns-in-Volume-clause-resizes
-returns-in-Volume-clause-resizes g c = λ m r id f is. resizes_none c.args.call.now id (ap resizes c.in-Volume.is) is
-
 -- ---- A call on spaces.
 
 pub answer_on_spaces-requires-clause-on_spaces : goal.answer_on_spaces-requires-clause-on_spaces
 answer_on_spaces-requires-clause-on_spaces g c = on_spaces c.args.call.now c.requires.more c.in_default.not-Create c.in_default.not-Delete c.in_default.not-Attributes c.in_default.not-SetSize c.in_default.not-MakePermanent c.in_default.not-MakeImmutable c.in_default.not-Next c.in_default.not-Volume
-
-pub returns-in_default-clause-around : goal.returns-in_default-clause-around
-returns-in_default-clause-around g c = around_other c.args.call.now (no_leader c.args.call.now (on_spaces c.args.call.now c.requires.more c.in_default.not-Create c.in_default.not-Delete c.in_default.not-Attributes c.in_default.not-SetSize c.in_default.not-MakePermanent c.in_default.not-MakeImmutable c.in_default.not-Next c.in_default.not-Volume))
-
-pub returns-in_default-clause-resizes : goal.returns-in_default-clause-resizes
-returns-in_default-clause-resizes g c = λ m r id f. resizes_none c.args.call.now id (no_resize c.args.call.now (on_spaces c.args.call.now c.requires.more c.in_default.not-Create c.in_default.not-Delete c.in_default.not-Attributes c.in_default.not-SetSize c.in_default.not-MakePermanent c.in_default.not-MakeImmutable c.in_default.not-Next c.in_default.not-Volume))

@@ -2,7 +2,7 @@ use Rattle.std.proofs.Common.{ap, arith, length, List, Some, refl, subst, sym, �
 use Rattle.std.proofs.lemmas.Bool.{true≢false}
 use Rattle.flat_machine.specs.References.{is_reference}
 use Rattle.pilot_engine.specs.Labels.{keeps_labels}
-use Rattle.pilot_engine.specs.Stepping.{IsResident, StepHalts, waits}
+use Rattle.pilot_engine.specs.Stepping.{IsResident, StepHalts, resizes, waits, writes_leader}
 use Rattle.pilot_engine.proofs.BoundLemmas.{asked_inside}
 use Rattle.pilot_engine.proofs.LabelLemmas.{pages_alone}
 use Rattle.pilot_engine.proofs.StepLemmas.{none_on_spaces, nothing_revealed, of_pages}
@@ -41,6 +41,7 @@ use Rattle.session_words.specs.CellLaws.{IsTouchedOrOwn}
 use Rattle.running_words.specs.Session.{WroteIn}
 use Rattle.pilot_engine.specs.Showing.{mapped_by, maps}
 use Rattle.pilot_engine.proofs.WindowLemmas.{map_or_more, on_or_more}
+use Rattle.pilot_engine.proofs.OwnLemmas.{around_other, resizes_none}
 use Rattle.pilot_engine.proofs.ReferLemmas.{ok_always}
 use Rattle.pilot_engine.proofs.WritingLemmas.{allowed_asked, allowed_call, allowed_named}
 use Rattle.pilot_engine.proofs.CallSteps.{plain_all}
@@ -56,13 +57,13 @@ pub returns-in-MakeSpace-clause-machine : goal.returns-in-MakeSpace-clause-machi
 returns-in-MakeSpace-clause-machine g c =
     λ m r.
     let e = c.make_space.ensures in
-    rw c.in-MakeSpace.is (plain_all (call.MakeSpace c.in-MakeSpace.parent c.in-MakeSpace.pages c.in-MakeSpace.first) c.make_space.result refl (λ kept slots resident. resident) (λ kept slots. tt) (answers_on c.args.self.now c.make_space.new.core (e.answers c.args.self.now.volume m r) (λ quiet. ok_always c.make_space.result _ e.went.came) e.cost))
+    rw c.in-MakeSpace.is (plain_all (call.MakeSpace c.in-MakeSpace.parent c.in-MakeSpace.pages c.in-MakeSpace.first) c.make_space.result refl (λ kept slots resident. resident) (λ kept slots. tt) refl (answers_on c.args.self.now c.make_space.new.core (e.answers c.args.self.now.volume m r) (λ quiet. ok_always c.make_space.result _ e.went.came) e.cost))
 
 pub returns-in-MakeSpace-clause-remains : goal.returns-in-MakeSpace-clause-remains
 returns-in-MakeSpace-clause-remains g c = remains_on c.args.self.now c.make_space.new.core c.requires.set_up.opened c.make_space.ensures.went.moves.layout
 
 pub returns-in-MakeSpace-clause-writes : goal.returns-in-MakeSpace-clause-writes
-returns-in-MakeSpace-clause-writes g c = rw c.in-MakeSpace.is (writes_on c.args.self.now c.make_space.new.core (call.MakeSpace c.in-MakeSpace.parent c.in-MakeSpace.pages c.in-MakeSpace.first) c.make_space.result c.make_space.ensures.went.wrote (λ ss s. c.make_space.ensures.went.wrote) c.make_space.ensures.went.moves.goes.makes)
+returns-in-MakeSpace-clause-writes g c = rw c.in-MakeSpace.is (writes_on c.args.self.now c.make_space.new.core (call.MakeSpace c.in-MakeSpace.parent c.in-MakeSpace.pages c.in-MakeSpace.first) c.make_space.result refl c.make_space.ensures.went.wrote (λ ss s. c.make_space.ensures.went.wrote) c.make_space.ensures.went.moves.goes.makes)
 
 pub returns-in-MakeSpace-clause-reference : goal.returns-in-MakeSpace-clause-reference
 returns-in-MakeSpace-clause-reference g c = λ revealed. absurd (true≢false (sym revealed ∙ ap is_reference c.in-MakeSpace.is))
@@ -71,13 +72,13 @@ pub returns-in-RemoveSpace-clause-machine : goal.returns-in-RemoveSpace-clause-m
 returns-in-RemoveSpace-clause-machine g c =
     λ m r.
     let e = c.remove_space.ensures in
-    rw c.in-RemoveSpace.is (plain_all (call.RemoveSpace c.in-RemoveSpace.space) c.remove_space.result refl (λ kept slots resident. resident) (λ kept slots. tt) (answers_on c.args.self.now c.remove_space.new.core (e.answers c.args.self.now.volume m r) (λ quiet. ok_always c.remove_space.result _ e.went.came) e.cost))
+    rw c.in-RemoveSpace.is (plain_all (call.RemoveSpace c.in-RemoveSpace.space) c.remove_space.result refl (λ kept slots resident. resident) (λ kept slots. tt) refl (answers_on c.args.self.now c.remove_space.new.core (e.answers c.args.self.now.volume m r) (λ quiet. ok_always c.remove_space.result _ e.went.came) e.cost))
 
 pub returns-in-RemoveSpace-clause-remains : goal.returns-in-RemoveSpace-clause-remains
 returns-in-RemoveSpace-clause-remains g c = remains_on c.args.self.now c.remove_space.new.core c.requires.set_up.opened c.remove_space.ensures.went.moves.layout
 
 pub returns-in-RemoveSpace-clause-writes : goal.returns-in-RemoveSpace-clause-writes
-returns-in-RemoveSpace-clause-writes g c = rw c.in-RemoveSpace.is (writes_on c.args.self.now c.remove_space.new.core (call.RemoveSpace c.in-RemoveSpace.space) c.remove_space.result c.remove_space.ensures.went.wrote (λ ss s. c.remove_space.ensures.went.wrote) c.remove_space.ensures.went.moves.goes.makes)
+returns-in-RemoveSpace-clause-writes g c = rw c.in-RemoveSpace.is (writes_on c.args.self.now c.remove_space.new.core (call.RemoveSpace c.in-RemoveSpace.space) c.remove_space.result refl c.remove_space.ensures.went.wrote (λ ss s. c.remove_space.ensures.went.wrote) c.remove_space.ensures.went.moves.goes.makes)
 
 pub returns-in-RemoveSpace-clause-reference : goal.returns-in-RemoveSpace-clause-reference
 returns-in-RemoveSpace-clause-reference g c = λ revealed. absurd (true≢false (sym revealed ∙ ap is_reference c.in-RemoveSpace.is))
@@ -86,13 +87,13 @@ pub returns-in-Place-clause-machine : goal.returns-in-Place-clause-machine
 returns-in-Place-clause-machine g c =
     λ m r.
     let e = c.place.ensures in
-    rw c.in-Place.is (plain_all (call.Place c.in-Place.page) c.place.result refl (λ kept slots resident. resident) (λ kept slots. tt) (answers_on c.args.self.now c.place.new.core (e.answers c.args.self.now.volume m r) (λ quiet. ok_always c.place.result _ e.went.came) e.cost))
+    rw c.in-Place.is (plain_all (call.Place c.in-Place.page) c.place.result refl (λ kept slots resident. resident) (λ kept slots. tt) refl (answers_on c.args.self.now c.place.new.core (e.answers c.args.self.now.volume m r) (λ quiet. ok_always c.place.result _ e.went.came) e.cost))
 
 pub returns-in-Place-clause-remains : goal.returns-in-Place-clause-remains
 returns-in-Place-clause-remains g c = remains_on c.args.self.now c.place.new.core c.requires.set_up.opened c.place.ensures.went.moves.layout
 
 pub returns-in-Place-clause-writes : goal.returns-in-Place-clause-writes
-returns-in-Place-clause-writes g c = rw c.in-Place.is (writes_on c.args.self.now c.place.new.core (call.Place c.in-Place.page) c.place.result c.place.ensures.went.wrote (λ ss s. c.place.ensures.went.wrote) c.place.ensures.went.moves.goes.makes)
+returns-in-Place-clause-writes g c = rw c.in-Place.is (writes_on c.args.self.now c.place.new.core (call.Place c.in-Place.page) c.place.result refl c.place.ensures.went.wrote (λ ss s. c.place.ensures.went.wrote) c.place.ensures.went.moves.goes.makes)
 
 pub returns-in-Place-clause-reference : goal.returns-in-Place-clause-reference
 returns-in-Place-clause-reference g c = λ revealed. absurd (true≢false (sym revealed ∙ ap is_reference c.in-Place.is))
@@ -101,13 +102,13 @@ pub returns-in-Units-clause-machine : goal.returns-in-Units-clause-machine
 returns-in-Units-clause-machine g c =
     λ m r.
     let e = c.set_units.ensures in
-    rw c.in-Units.is (plain_all (call.Units c.in-Units.space c.in-Units.pages) c.set_units.result refl (λ kept slots resident. resident) (λ kept slots. tt) (answers_on c.args.self.now c.set_units.new.core (e.answers c.args.self.now.volume m r) (λ quiet. ok_always c.set_units.result _ e.went.came) e.cost))
+    rw c.in-Units.is (plain_all (call.Units c.in-Units.space c.in-Units.pages) c.set_units.result refl (λ kept slots resident. resident) (λ kept slots. tt) refl (answers_on c.args.self.now c.set_units.new.core (e.answers c.args.self.now.volume m r) (λ quiet. ok_always c.set_units.result _ e.went.came) e.cost))
 
 pub returns-in-Units-clause-remains : goal.returns-in-Units-clause-remains
 returns-in-Units-clause-remains g c = remains_on c.args.self.now c.set_units.new.core c.requires.set_up.opened c.set_units.ensures.went.moves.layout
 
 pub returns-in-Units-clause-writes : goal.returns-in-Units-clause-writes
-returns-in-Units-clause-writes g c = rw c.in-Units.is (writes_on c.args.self.now c.set_units.new.core (call.Units c.in-Units.space c.in-Units.pages) c.set_units.result c.set_units.ensures.went.wrote (λ ss s. c.set_units.ensures.went.wrote) c.set_units.ensures.went.moves.goes.makes)
+returns-in-Units-clause-writes g c = rw c.in-Units.is (writes_on c.args.self.now c.set_units.new.core (call.Units c.in-Units.space c.in-Units.pages) c.set_units.result refl c.set_units.ensures.went.wrote (λ ss s. c.set_units.ensures.went.wrote) c.set_units.ensures.went.moves.goes.makes)
 
 pub returns-in-Units-clause-reference : goal.returns-in-Units-clause-reference
 returns-in-Units-clause-reference g c = λ revealed. absurd (true≢false (sym revealed ∙ ap is_reference c.in-Units.is))
@@ -116,19 +117,19 @@ pub returns-in-Map-clause-machine : goal.returns-in-Map-clause-machine
 returns-in-Map-clause-machine g c =
     λ m r.
     let e = c.map.ensures in
-    rw c.in-Map.is (plain_all (call.Map c.in-Map.space c.in-Map.id c.in-Map.page c.in-Map.writable) c.map.result refl (λ kept slots resident. resident) (λ kept slots. tt) (answers_on c.args.self.now c.map.new.core (e.answers c.args.self.now.volume m r) (λ quiet. ok_always c.map.result _ e.went.came) e.cost))
+    rw c.in-Map.is (plain_all (call.Map c.in-Map.space c.in-Map.id c.in-Map.page c.in-Map.writable) c.map.result refl (λ kept slots resident. resident) (λ kept slots. tt) refl (answers_on c.args.self.now c.map.new.core (e.answers c.args.self.now.volume m r) (λ quiet. ok_always c.map.result _ e.went.came) e.cost))
 
 pub returns-in-Map-clause-remains : goal.returns-in-Map-clause-remains
 returns-in-Map-clause-remains g c = remains_on c.args.self.now c.map.new.core c.requires.set_up.opened c.map.ensures.went.moves.layout
 
 pub returns-in-Map-clause-writes : goal.returns-in-Map-clause-writes
-returns-in-Map-clause-writes g c = rw c.in-Map.is (writes_on c.args.self.now c.map.new.core (call.Map c.in-Map.space c.in-Map.id c.in-Map.page c.in-Map.writable) c.map.result c.map.ensures.went.wrote (λ ss s. c.map.ensures.went.wrote) c.map.ensures.went.moves.goes.makes)
+returns-in-Map-clause-writes g c = rw c.in-Map.is (writes_on c.args.self.now c.map.new.core (call.Map c.in-Map.space c.in-Map.id c.in-Map.page c.in-Map.writable) c.map.result refl c.map.ensures.went.wrote (λ ss s. c.map.ensures.went.wrote) c.map.ensures.went.moves.goes.makes)
 
 pub returns-in-Map-clause-reference : goal.returns-in-Map-clause-reference
 returns-in-Map-clause-reference g c = λ revealed. absurd (true≢false (sym revealed ∙ ap is_reference c.in-Map.is))
 
 pub returns-in-MapAnonymous-clause-machine : goal.returns-in-MapAnonymous-clause-machine
-returns-in-MapAnonymous-clause-machine g c = λ m r. rw c.in-MapAnonymous.is (plain_all (call.MapAnonymous c.in-MapAnonymous.space) c.map_anonymous.result refl (λ kept slots resident. resident) (λ kept slots. tt) (c.map_anonymous.ensures.answers m r))
+returns-in-MapAnonymous-clause-machine g c = λ m r. rw c.in-MapAnonymous.is (plain_all (call.MapAnonymous c.in-MapAnonymous.space) c.map_anonymous.result refl (λ kept slots resident. resident) (λ kept slots. tt) refl (c.map_anonymous.ensures.answers m r))
 
 pub returns-in-MapAnonymous-clause-writes : goal.returns-in-MapAnonymous-clause-writes
 returns-in-MapAnonymous-clause-writes g c =
@@ -138,6 +139,7 @@ returns-in-MapAnonymous-clause-writes g c =
       shown = λ ss s. rw c.in-MapAnonymous.is c.map_anonymous.ensures.writes.wrote;
       own = allowed_named c.map_anonymous.result (next_id root) (counted root) c.map_anonymous.new.self.volume.root c.args.call.now c.in-MapAnonymous.is c.map_anonymous.ensures.writes.own;
       spares = λ id client other new. c.map_anonymous.ensures.writes.spares id client new;
+      around = around_other c.args.call.now (ap writes_leader c.in-MapAnonymous.is);
       unlabelled = λ keeps. absurd (true≢false (sym keeps ∙ ap keeps_labels c.in-MapAnonymous.is));
     }
 
@@ -149,6 +151,7 @@ returns-in-Unmap-clause-machine g c = λ m r. record {
   answers = rw c.in-Unmap.is (c.unmap.ensures.answers m r);
   forced = λ revealed free. done_then m c.in-Unmap.space c.unmap.new.self.core c.unmap.new.self.volume _ c.unmap.result (sym (ap (refusal m) c.in-Unmap.is) ∙ free) ((c.unmap.ensures.answers m r).carried) c.unmap.ensures.synced;
   advised = λ free. rw c.in-Unmap.is (nothing_revealed c.unmap.result);
+  resizes = λ id f is. resizes_none c.args.call.now id (ap resizes c.in-Unmap.is) is;
   idle = λ resident. absurd (subst (λ (x : Call). IsResident x (kept c.args.self.now.core) (state c.args.self.now.core).slots) c.in-Unmap.is resident);
 }
 
@@ -160,6 +163,7 @@ returns-in-Unmap-clause-writes g c =
       shown = λ ss s. rw c.in-Unmap.is c.unmap.ensures.writes.wrote;
       own = allowed_call c.unmap.result (next_id root) (counted root) c.unmap.new.self.volume.root c.args.call.now c.in-Unmap.is c.unmap.ensures.writes.own;
       spares = λ id client other new. c.unmap.ensures.writes.spares id client;
+      around = around_other c.args.call.now (ap writes_leader c.in-Unmap.is);
       unlabelled = λ keeps. absurd (true≢false (sym keeps ∙ ap keeps_labels c.in-Unmap.is));
     }
 
@@ -173,6 +177,7 @@ returns-in-Protect-clause-machine g c = λ m r.
       answers = rw c.in-Protect.is (answers_on c.args.self.now c.protect.new.core (e.answers c.args.self.now.volume m r) (λ quiet. ok_always c.protect.result _ e.went.came) e.cost);
       forced = λ revealed free. c.protect.ensures.synced c.args.self.now.volume m r (unset _ (sym (ap waits c.in-Protect.is) ∙ revealed)) (sym (ap (refusal m) c.in-Protect.is) ∙ free);
       advised = λ free. rw c.in-Protect.is (nothing_revealed c.protect.result);
+      resizes = λ id f is. resizes_none c.args.call.now id (ap resizes c.in-Protect.is) is;
       idle = λ resident. absurd (subst (λ (x : Call). IsResident x (kept c.args.self.now.core) (state c.args.self.now.core).slots) c.in-Protect.is resident);
     }
 
@@ -180,7 +185,7 @@ pub returns-in-Protect-clause-remains : goal.returns-in-Protect-clause-remains
 returns-in-Protect-clause-remains g c = remains_on c.args.self.now c.protect.new.core c.requires.set_up.opened c.protect.ensures.went.moves.layout
 
 pub returns-in-Protect-clause-writes : goal.returns-in-Protect-clause-writes
-returns-in-Protect-clause-writes g c = rw c.in-Protect.is (writes_on c.args.self.now c.protect.new.core (call.Protect c.in-Protect.space c.in-Protect.writable) c.protect.result c.protect.ensures.went.wrote (λ ss s. c.protect.ensures.went.wrote) c.protect.ensures.went.moves.goes.makes)
+returns-in-Protect-clause-writes g c = rw c.in-Protect.is (writes_on c.args.self.now c.protect.new.core (call.Protect c.in-Protect.space c.in-Protect.writable) c.protect.result refl c.protect.ensures.went.wrote (λ ss s. c.protect.ensures.went.wrote) c.protect.ensures.went.moves.goes.makes)
 
 pub returns-in-Protect-clause-reference : goal.returns-in-Protect-clause-reference
 returns-in-Protect-clause-reference g c = λ revealed. absurd (true≢false (sym revealed ∙ ap is_reference c.in-Protect.is))
@@ -193,6 +198,7 @@ returns-in-Load-clause-machine g c = λ m r.
       answers = rw c.in-Load.is (answers_on c.args.self.now c.load.new.core (e.answers c.args.self.now.volume m r) (λ quiet. absurd (true≢false quiet)) cost);
       forced = λ revealed free. absurd (true≢false (sym revealed ∙ ap waits c.in-Load.is));
       advised = λ free. rw c.in-Load.is (c.load.ensures.ready c.args.self.now.volume m r (sym (ap (refusal m) c.in-Load.is) ∙ free));
+      resizes = λ id f is. resizes_none c.args.call.now id (ap resizes c.in-Load.is) is;
       idle = (λ resident.
           let ready = subst (λ (x : Call). IsResident x (kept c.args.self.now.core) (state c.args.self.now.core).slots) c.in-Load.is resident in
           let done = c.load.ensures.idle c.args.self.now.volume m r ready.0 ready.1 in
@@ -203,7 +209,7 @@ pub returns-in-Load-clause-remains : goal.returns-in-Load-clause-remains
 returns-in-Load-clause-remains g c = remains_on c.args.self.now c.load.new.core c.requires.set_up.opened c.load.ensures.went.moves.layout
 
 pub returns-in-Load-clause-writes : goal.returns-in-Load-clause-writes
-returns-in-Load-clause-writes g c = rw c.in-Load.is (writes_on c.args.self.now c.load.new.core (call.Load c.in-Load.address c.in-Load.count) c.load.result c.load.ensures.went.wrote (λ ss s. c.load.ensures.went.wrote) c.load.ensures.went.moves.goes.makes)
+returns-in-Load-clause-writes g c = rw c.in-Load.is (writes_on c.args.self.now c.load.new.core (call.Load c.in-Load.address c.in-Load.count) c.load.result refl c.load.ensures.went.wrote (λ ss s. c.load.ensures.went.wrote) c.load.ensures.went.moves.goes.makes)
 
 pub returns-in-Store-clause-machine : goal.returns-in-Store-clause-machine
 returns-in-Store-clause-machine g c = λ m r.
@@ -218,6 +224,7 @@ returns-in-Store-clause-machine g c = λ m r.
           rw c.in-Store.is
           (subst (λ (bs : List ℕ). OnOk c.store.result (IsReady (kept c.store.new.core) (state c.store.new.core).slots (last_page c.in-Store.address (length bs)))) c.as_slice.ensures.bytes
           (c.store.ensures.ready c.args.self.now.volume m r (ap (λ (bs : List ℕ). refusal m (call.Store c.in-Store.address bs)) c.as_slice.ensures.bytes ∙ sym (ap (refusal m) c.in-Store.is) ∙ free))));
+      resizes = λ id f is. resizes_none c.args.call.now id (ap resizes c.in-Store.is) is;
       idle = (λ resident.
           let ready = subst (λ (x : Call). IsResident x (kept c.args.self.now.core) (state c.args.self.now.core).slots) c.in-Store.is resident in
           let last = subst (λ (bs : List ℕ). IsReady (kept c.args.self.now.core) (state c.args.self.now.core).slots (last_page c.in-Store.address (length bs))) (sym c.as_slice.ensures.bytes) ready.1 in
@@ -239,6 +246,7 @@ returns-in-Store-clause-writes g c =
           rw c.in-Store.is (subst (λ (bs : List ℕ). WroteIn (IsTouchedOrOwn ss c.in-Store.address (length bs)) old.disk old.slots new.disk new.slots) c.as_slice.ensures.bytes (c.store.ensures.shown ss s)));
       own = allowed_asked c.store.result (next_id root) (counted root) root c.args.call.now c.store.ensures.went.moves.goes.makes;
       spares = λ id client other new. spares_quiet c.store.ensures.went.moves.goes.makes id client;
+      around = around_other c.args.call.now (ap writes_leader c.in-Store.is);
       unlabelled = λ keeps. pages_alone c.store.ensures.went.moves.goes.makes;
     }
 
@@ -249,6 +257,7 @@ returns-in-Activate-clause-machine g c = λ m r.
       answers = rw c.in-Activate.is (answers_on c.args.self.now c.activate.new.core (e.answers c.args.self.now.volume m r) (λ quiet. absurd (true≢false quiet)) e.cost);
       forced = λ revealed free. absurd (true≢false (sym revealed ∙ ap waits c.in-Activate.is));
       advised = λ free. rw c.in-Activate.is (of_pages (IsActive m.spaces (kept c.activate.new.core) (state c.activate.new.core).slots) m.spaces c.in-Activate.space c.activate.result (λ s at. c.activate.ensures.whole c.args.self.now.volume m s r at));
+      resizes = λ id f is. resizes_none c.args.call.now id (ap resizes c.in-Activate.is) is;
       idle = λ resident. absurd (subst (λ (x : Call). IsResident x (kept c.args.self.now.core) (state c.args.self.now.core).slots) c.in-Activate.is resident);
     }
 
@@ -256,7 +265,7 @@ pub returns-in-Activate-clause-remains : goal.returns-in-Activate-clause-remains
 returns-in-Activate-clause-remains g c = remains_on c.args.self.now c.activate.new.core c.requires.set_up.opened c.activate.ensures.went.moves.layout
 
 pub returns-in-Activate-clause-writes : goal.returns-in-Activate-clause-writes
-returns-in-Activate-clause-writes g c = rw c.in-Activate.is (writes_on c.args.self.now c.activate.new.core (call.Activate c.in-Activate.space) c.activate.result c.activate.ensures.went.wrote (λ ss s. c.activate.ensures.went.wrote) c.activate.ensures.went.moves.goes.makes)
+returns-in-Activate-clause-writes g c = rw c.in-Activate.is (writes_on c.args.self.now c.activate.new.core (call.Activate c.in-Activate.space) c.activate.result refl c.activate.ensures.went.wrote (λ ss s. c.activate.ensures.went.wrote) c.activate.ensures.went.moves.goes.makes)
 
 pub returns-in-Activate-clause-reference : goal.returns-in-Activate-clause-reference
 returns-in-Activate-clause-reference g c = λ revealed. absurd (true≢false (sym revealed ∙ ap is_reference c.in-Activate.is))
@@ -268,6 +277,7 @@ returns-in-Deactivate-clause-machine g c = λ m r.
       answers = rw c.in-Deactivate.is (answers_on c.args.self.now c.deactivate.new.core (e.answers c.args.self.now.volume m r) (λ quiet. ok_always c.deactivate.result _ e.went.came) e.cost);
       forced = λ revealed free. absurd (true≢false (sym revealed ∙ ap waits c.in-Deactivate.is));
       advised = λ free. rw c.in-Deactivate.is (of_pages (AreGone m.spaces (state c.deactivate.new.core).slots) m.spaces c.in-Deactivate.space c.deactivate.result (λ s at. c.deactivate.ensures.gone c.args.self.now.volume m s r at));
+      resizes = λ id f is. resizes_none c.args.call.now id (ap resizes c.in-Deactivate.is) is;
       idle = λ resident. absurd (subst (λ (x : Call). IsResident x (kept c.args.self.now.core) (state c.args.self.now.core).slots) c.in-Deactivate.is resident);
     }
 
@@ -275,7 +285,7 @@ pub returns-in-Deactivate-clause-remains : goal.returns-in-Deactivate-clause-rem
 returns-in-Deactivate-clause-remains g c = remains_on c.args.self.now c.deactivate.new.core c.requires.set_up.opened c.deactivate.ensures.went.moves.layout
 
 pub returns-in-Deactivate-clause-writes : goal.returns-in-Deactivate-clause-writes
-returns-in-Deactivate-clause-writes g c = rw c.in-Deactivate.is (writes_on c.args.self.now c.deactivate.new.core (call.Deactivate c.in-Deactivate.space) c.deactivate.result c.deactivate.ensures.went.wrote (λ ss s. c.deactivate.ensures.went.wrote) c.deactivate.ensures.went.moves.goes.makes)
+returns-in-Deactivate-clause-writes g c = rw c.in-Deactivate.is (writes_on c.args.self.now c.deactivate.new.core (call.Deactivate c.in-Deactivate.space) c.deactivate.result refl c.deactivate.ensures.went.wrote (λ ss s. c.deactivate.ensures.went.wrote) c.deactivate.ensures.went.moves.goes.makes)
 
 pub returns-in-Deactivate-clause-reference : goal.returns-in-Deactivate-clause-reference
 returns-in-Deactivate-clause-reference g c = λ revealed. absurd (true≢false (sym revealed ∙ ap is_reference c.in-Deactivate.is))
@@ -287,6 +297,7 @@ returns-in-Kill-clause-machine g c = λ m r.
       answers = rw c.in-Kill.is (answers_on c.args.self.now c.kill.new.core (e.answers c.args.self.now.volume m r) (λ quiet. ok_always c.kill.result _ e.went.came) e.cost);
       forced = λ revealed free. absurd (true≢false (sym revealed ∙ ap waits c.in-Kill.is));
       advised = λ free. rw c.in-Kill.is (of_pages (AreWritableSo (is_absent (state c.kill.new.core).slots) m.spaces) m.spaces c.in-Kill.space c.kill.result (λ s at. c.kill.ensures.gone c.args.self.now.volume m s r at));
+      resizes = λ id f is. resizes_none c.args.call.now id (ap resizes c.in-Kill.is) is;
       idle = λ resident. absurd (subst (λ (x : Call). IsResident x (kept c.args.self.now.core) (state c.args.self.now.core).slots) c.in-Kill.is resident);
     }
 
@@ -294,7 +305,7 @@ pub returns-in-Kill-clause-remains : goal.returns-in-Kill-clause-remains
 returns-in-Kill-clause-remains g c = remains_on c.args.self.now c.kill.new.core c.requires.set_up.opened c.kill.ensures.went.moves.layout
 
 pub returns-in-Kill-clause-writes : goal.returns-in-Kill-clause-writes
-returns-in-Kill-clause-writes g c = rw c.in-Kill.is (writes_on c.args.self.now c.kill.new.core (call.Kill c.in-Kill.space) c.kill.result c.kill.ensures.went.wrote (λ ss s. c.kill.ensures.went.wrote) c.kill.ensures.went.moves.goes.makes)
+returns-in-Kill-clause-writes g c = rw c.in-Kill.is (writes_on c.args.self.now c.kill.new.core (call.Kill c.in-Kill.space) c.kill.result refl c.kill.ensures.went.wrote (λ ss s. c.kill.ensures.went.wrote) c.kill.ensures.went.moves.goes.makes)
 
 pub returns-in-Kill-clause-reference : goal.returns-in-Kill-clause-reference
 returns-in-Kill-clause-reference g c = λ revealed. absurd (true≢false (sym revealed ∙ ap is_reference c.in-Kill.is))
@@ -306,6 +317,7 @@ returns-in-ForceOut-clause-machine g c = λ m r.
       answers = rw c.in-ForceOut.is (answers_on c.args.self.now c.force_out.new.core (e.answers c.args.self.now.volume m r) (λ quiet. ok_always c.force_out.result _ e.went.came) e.cost);
       forced = λ revealed free. c.force_out.ensures.synced c.args.self.now.volume m r (sym (ap (refusal m) c.in-ForceOut.is) ∙ free);
       advised = λ free. rw c.in-ForceOut.is (of_pages (AreClean m.spaces (state c.force_out.new.core).slots) m.spaces c.in-ForceOut.space c.force_out.result (λ s at. c.force_out.ensures.clean c.args.self.now.volume m s r at));
+      resizes = λ id f is. resizes_none c.args.call.now id (ap resizes c.in-ForceOut.is) is;
       idle = λ resident. absurd (subst (λ (x : Call). IsResident x (kept c.args.self.now.core) (state c.args.self.now.core).slots) c.in-ForceOut.is resident);
     }
 
@@ -313,7 +325,7 @@ pub returns-in-ForceOut-clause-remains : goal.returns-in-ForceOut-clause-remains
 returns-in-ForceOut-clause-remains g c = remains_on c.args.self.now c.force_out.new.core c.requires.set_up.opened c.force_out.ensures.went.moves.layout
 
 pub returns-in-ForceOut-clause-writes : goal.returns-in-ForceOut-clause-writes
-returns-in-ForceOut-clause-writes g c = rw c.in-ForceOut.is (writes_on c.args.self.now c.force_out.new.core (call.ForceOut c.in-ForceOut.space) c.force_out.result c.force_out.ensures.went.wrote (λ ss s. c.force_out.ensures.went.wrote) c.force_out.ensures.went.moves.goes.makes)
+returns-in-ForceOut-clause-writes g c = rw c.in-ForceOut.is (writes_on c.args.self.now c.force_out.new.core (call.ForceOut c.in-ForceOut.space) c.force_out.result refl c.force_out.ensures.went.wrote (λ ss s. c.force_out.ensures.went.wrote) c.force_out.ensures.went.moves.goes.makes)
 
 pub returns-in-ForceOut-clause-reference : goal.returns-in-ForceOut-clause-reference
 returns-in-ForceOut-clause-reference g c = λ revealed. absurd (true≢false (sym revealed ∙ ap is_reference c.in-ForceOut.is))

@@ -32,8 +32,7 @@ use Rattle.pilot_engine.proofs.SparedFiles.{spares_resized, spares_resizing}
 use Rattle.pilot_engine.proofs.SeesLemmas.{same_from}
 use Rattle.swapper_kernel.specs.HaltLaws.{brings_then}
 use Rattle.pilot_engine.proofs.CameOwn.{own_itself}
-use Rattle.file_manager.proofs.SyncSteps.{quiet_after}
-use Rattle.pilot_engine.proofs.OwnLemmas.{later_after_sync}
+use Rattle.label_calls.specs.ClearedLaws.{later_after_sync, quiet_after}
 use Rattle.pilot_engine.proofs.FailSteps.{fails_after, fails_wider}
 use Rattle.pilot_engine.proofs.AskedSteps.{accounts_found, asked_writes, remains_files, accounts_itself, remains_itself}
 use Rattle.pilot_engine.proofs.session.Session.resize.Goals as goal

@@ -6,8 +6,7 @@ use Rattle.pilot_engine.specs.Seen.{IsSight}
 use Rattle.pilot_engine.proofs.LiftLemmas.{refused_running}
 use Rattle.pilot_engine.proofs.RefusalLemmas.{no_file_hidden, size_gone}
 use Rattle.fault_core.specs.Core.{state}
-use Rattle.file_manager.proofs.SyncSteps.{quiet_after}
-use Rattle.pilot_engine.proofs.OwnLemmas.{later_after_sync}
+use Rattle.label_calls.specs.ClearedLaws.{later_after_sync, quiet_after}
 use Rattle.pilot_engine.proofs.FailSteps.{fails_wider, if_fails_after}
 use Rattle.pilot_engine.proofs.AskedSteps.{accounts_after, accounts_again, accounts_failed, answers_after, answers_asked, answers_halted, asked_writes, remains_after, remains_asked, writes_after, paid_after, set_up_asked}
 use Rattle.pilot_engine.proofs.session.Session.set_size.Goals as goal

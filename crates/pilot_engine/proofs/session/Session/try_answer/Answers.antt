@@ -74,7 +74,7 @@ returns-in_default g c =
       labels = record {
         own = subst (λ (t : Result Tried Halt). WritesAllowed what old new t) (sym c.replied.ensures) (allowed_tried r (Written (CallMay (next_id old.volume.root) new.volume.root what) (state old.core).disk (state new.core).disk) did.writes.own);
         spares = did.writes.spares;
-        around = λ leads. subst (λ (t : Result Tried Halt). SyncsLeaders t (state old.core).disk (state new.core).disk) (sym c.replied.ensures) (replied_around (state old.core).disk (state new.core).disk r (did.around leads));
+        around = λ leads. subst (λ (t : Result Tried Halt). SyncsLeaders t (state old.core).disk (state new.core).disk) (sym c.replied.ensures) (replied_around (state old.core).disk (state new.core).disk r (did.writes.around leads));
         unlabelled = did.writes.unlabelled;
       };
       running = did.remains.running;

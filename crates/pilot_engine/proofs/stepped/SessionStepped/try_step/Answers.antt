@@ -2,14 +2,8 @@ use Rattle.std.proofs.Common.{}
 use Rattle.pilot_engine.proofs.SteppedLemmas.{stands_on, accounted_later, accounted_now, keeps_on, takes_more}
 use Rattle.pilot_engine.proofs.stepped.SessionStepped.try_step.Goals as goal
 
-pub try_step-requires-clause-size : goal.try_step-requires-clause-size
-try_step-requires-clause-size g c = c.requires.runs.size
-
-pub try_step-requires-clause-opened : goal.try_step-requires-clause-opened
-try_step-requires-clause-opened g c = c.requires.runs.opened
-
-pub try_step-requires-clause-running : goal.try_step-requires-clause-running
-try_step-requires-clause-running g c = c.requires.runs.running
+pub try_step-requires-clause-taken : goal.try_step-requires-clause-taken
+try_step-requires-clause-taken g c = c.requires.runs
 
 pub returns-clause-tried : goal.returns-clause-tried
 returns-clause-tried g c = λ m stands. (c.try_step.ensures.machine m stands).tried
