@@ -10,3 +10,4 @@ pub mod Spent
 pub mod Stops
 pub mod Room
 pub mod Refusals
+pub mod Putting

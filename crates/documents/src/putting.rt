@@ -12,6 +12,7 @@ ghost use Rattle.embedded.specs.Engine.{IsClosed, StandsFor, disk_of};
 ghost use Rattle.embedded.specs.Spending.{HasFailed, IsLater, Spends};
 ghost use Rattle.documents.specs.Course.{Led, is_quiet};
 ghost use Rattle.documents.specs.Pieces.{adding, appended, marked, written};
+ghost use Rattle.documents.specs.Putting.{PutFails, Puts};
 ghost use Rattle.documents.specs.Stands.{HasFilled, HasOther, IsAsBefore, IsFresh, IsPut, blank, is_failure};
 ghost use Rattle.documents.specs.Ends.{EndsWith, IsUndone, Marked};
 ghost use Rattle.documents.specs.Spent.{PutsWithin, windows};
@@ -248,27 +249,14 @@ pub fn put<D: Disk + Drop, A: Allocator, S: Source, P: Progress>(
     name: &str,
     progress: &mut P,
 ) -> Result<FileId, Fault>
-    ensures marked { IfOk result (λ id. Marked id engine.old engine.new) }
-    ensures undone { IfErr result (λ e. (engine.new ≡ engine.old) ⊎ IsUndone engine.new) }
-    ensures named { 255 < length name.now → (result ≡ Err Fault.LongName) × (engine.new ≡ engine.old) }
+    ensures document { (m : Machine) → StandsFor engine.old m
+        → Puts m name.now (S.left source.old) (S.left source.new) engine.old engine.new result }
     ensures closed { IsClosed engine.old → length name.now ≤ 255
         → (result ≡ Err (Fault.Call Code.Closed)) × (engine.new ≡ engine.old) × (source.new ≡ source.old) }
-    ensures document { (m : Machine) → StandsFor engine.old m
-        → IfOk result (λ id. IsPut m id name.now (S.left source.old) engine.new) }
-    ensures kept { (m : Machine) → StandsFor engine.old m
-        → IfErr result (λ e. (e ≡ Fault.Call is_failure) ⊎ IsAsBefore m engine.new) }
-    ensures full { (m : Machine) → StandsFor engine.old m → result ≡ Err (Fault.Call is_full)
-        → HasNoRoom m (S.left source.old) (S.left source.new) }
-    ensures stops { (m : Machine) → StandsFor engine.old m
-        → Leaves (WholeOrAbsent m name.now (S.left source.old)) engine.old engine.new }
-    ensures lasts { (m : Machine) (d : List Sector) → StandsFor engine.old m → Reveals d engine.new
-        → OnOk result (HasWhole m name.now (S.left source.old) d) }
+    ensures fails { PutFails name.now (S.faults source.old) (S.faults source.new) engine.old engine.new result }
+    ensures marked { IfOk result (λ id. Marked id engine.old engine.new) }
+    ensures undone { IfErr result (λ e. (engine.new ≡ engine.old) ⊎ IsUndone engine.new) }
     ensures ended { OnOk result (IsAtEnd (S.left source.new)) }
-    ensures other { result ≢ Err Fault.NoDocument }
-    ensures long { result ≡ Err Fault.LongName → 255 < length name.now }
-    ensures input { result ≡ Err Fault.Input → Rose (S.faults source.old) (S.faults source.new) }
-    ensures stopped { (why : Halt) → result ≡ Err (Fault.Call (Code.Halted why)) → HasStopped why engine.new }
-    ensures cause { result ≡ Err (Fault.Call is_failure) → HasFailed engine.old engine.new }
     ensures later { IsLater (disk_of engine.old) (disk_of engine.new) }
     ensures spends { (xs : List ℕ) → S.left source.old ≡ Some xs
         → PutsWithin 7 1 (length buffer.old) (length xs) engine.old engine.new }

@@ -34,7 +34,7 @@ returns-in-Ok-delete-clause-document g c = λ m stands.
     let one = c.in-Ok.ensures.still m stands in
     let still = one.1 in
     replaced_ok m c.args.old c.in-Ok-put.id c.args.name.now _ still.0 c.put.new.engine c.delete.new.self _ _ c.delete.ensures c.in-Ok-delete.is
-    one.0 still.1 (c.in-Ok-put.ensures.document (record m { unforced = still.0 }) still.2)
+    one.0 still.1 (c.in-Ok-put.ensures.document (record m { unforced = still.0 }) still.2).document
 
 pub returns-in-Err-clause-kept : goal.returns-in-Err-clause-kept
 returns-in-Err-clause-kept g c = λ m stands. elim (c.in-Err.ensures.still m stands) [
@@ -45,7 +45,7 @@ returns-in-Err-clause-kept g c = λ m stands. elim (c.in-Err.ensures.still m sta
 pub returns-in-Err-put-clause-kept : goal.returns-in-Err-put-clause-kept
 returns-in-Err-put-clause-kept g c = λ m stands.
     let still = (c.in-Ok.ensures.still m stands).1 in
-    elim (c.in-Err-put.ensures.kept (record m { unforced = still.0 }) still.2) [
+    elim (c.in-Err-put.ensures.document (record m { unforced = still.0 }) still.2).kept [
       | inl bad ↦ inl bad
       | inr st ↦ inr (still.0, still.1, st)
     ]
@@ -57,7 +57,7 @@ returns-in-Err-delete-clause-kept g c = λ m stands.
     _ c.delete-in-Err-delete.result c.in-Err-delete.code c.fault_after.result still.1 still.2 c.delete.ensures c.in-Err-delete.is c.delete-in-Err-delete.ensures
     (λ bad. stopped_code halt.Disk _ c.in-Err-delete.code c.delete.new.self c.delete.ensures.stopped c.in-Err-delete.is bad)
     c.fault_after.ensures.which (c.fault_after.ensures.halted halt.Disk)
-    (c.in-Ok-put.ensures.document (record m { unforced = still.0 }) still.2)
+    (c.in-Ok-put.ensures.document (record m { unforced = still.0 }) still.2).document
 
 -- six calls at most, those of a put, and two
 pub returns-in-Err-clause-spends : goal.returns-in-Err-clause-spends
@@ -96,7 +96,7 @@ returns-in-Err-clause-cause g c = λ is.
 
 pub returns-in-Err-put-clause-cause : goal.returns-in-Err-put-clause-cause
 returns-in-Err-put-clause-cause g c = λ is.
-    fault_since _ c.in-Err-put.fault c.args.engine.now c.is_document.new.engine c.put.new.engine c.is_document.ensures.spends.later c.put.ensures.cause c.in-Err-put.is (cc is)
+    fault_since _ c.in-Err-put.fault c.args.engine.now c.is_document.new.engine c.put.new.engine c.is_document.ensures.spends.later c.put.ensures.fails.cause c.in-Err-put.is (cc is)
 
 pub returns-in-Err-delete-clause-cause : goal.returns-in-Err-delete-clause-cause
 returns-in-Err-delete-clause-cause g c = λ is.
@@ -114,7 +114,7 @@ pub returns-in-Err-put-clause-stops : goal.returns-in-Err-put-clause-stops
 returns-in-Err-put-clause-stops g c = λ m stands.
     let still = (c.in-Ok.ensures.still m stands).1 in
     put_leaves m c.args.old c.args.name.now _ still.0 c.args.engine.now c.is_document.new.engine c.put.new.engine stands still.1
-    (c.is_document.ensures.stops m stands) (c.put.ensures.stops (record m { unforced = still.0 }) still.2)
+    (c.is_document.ensures.stops m stands) (c.put.ensures.document (record m { unforced = still.0 }) still.2).stops
 
 pub returns-in-Ok-delete-clause-stops : goal.returns-in-Ok-delete-clause-stops
 returns-in-Ok-delete-clause-stops g c = λ m stands.
@@ -122,9 +122,9 @@ returns-in-Ok-delete-clause-stops g c = λ m stands.
     let still = one.1 in
     let n = record m { unforced = still.0 } in
     let put = put_leaves m c.args.old c.args.name.now _ still.0 c.args.engine.now c.is_document.new.engine c.put.new.engine stands still.1
-    (c.is_document.ensures.stops m stands) (c.put.ensures.stops n still.2) in
+    (c.is_document.ensures.stops m stands) (c.put.ensures.document n still.2).stops in
     instead_leaves m c.args.old c.in-Ok-put.id c.args.name.now _ still.0 c.args.engine.now c.put.new.engine c.delete.new.self _ stands still.1 one.0
-    (c.in-Ok-put.ensures.document n still.2) put c.delete.ensures
+    (c.in-Ok-put.ensures.document n still.2).document put c.delete.ensures
 
 pub returns-in-Err-delete-clause-stops : goal.returns-in-Err-delete-clause-stops
 returns-in-Err-delete-clause-stops g c = λ m stands.
@@ -132,11 +132,11 @@ returns-in-Err-delete-clause-stops g c = λ m stands.
     let still = one.1 in
     let n = record m { unforced = still.0 } in
     let put = put_leaves m c.args.old c.args.name.now _ still.0 c.args.engine.now c.is_document.new.engine c.put.new.engine stands still.1
-    (c.is_document.ensures.stops m stands) (c.put.ensures.stops n still.2) in
+    (c.is_document.ensures.stops m stands) (c.put.ensures.document n still.2).stops in
     let tried = instead_leaves m c.args.old c.in-Ok-put.id c.args.name.now _ still.0 c.args.engine.now c.put.new.engine c.delete.new.self _ stands still.1 one.0
-    (c.in-Ok-put.ensures.document n still.2) put c.delete.ensures in
+    (c.in-Ok-put.ensures.document n still.2).document put c.delete.ensures in
     back_leaves m c.args.old c.in-Ok-put.id c.args.name.now _ still.0 c.args.engine.now c.is_document.new.engine c.put.new.engine c.delete.new.self c.delete-in-Err-delete.new.self
-    _ c.delete-in-Err-delete.result c.in-Err-delete.code stands still.1 still.2 (c.in-Ok-put.ensures.document n still.2) c.delete.ensures c.in-Err-delete.is
+    _ c.delete-in-Err-delete.result c.in-Err-delete.code stands still.1 still.2 (c.in-Ok-put.ensures.document n still.2).document c.delete.ensures c.in-Err-delete.is
     tried c.delete-in-Err-delete.ensures
 
 pub returns-in-Err-delete-clause-refused : goal.returns-in-Err-delete-clause-refused
@@ -150,10 +150,10 @@ returns-in-Err-delete-clause-long g c = λ is.
     c.fault_after.ensures.which (cc is))
 
 pub returns-in-Err-put-clause-refused : goal.returns-in-Err-put-clause-refused
-returns-in-Err-put-clause-refused g c = λ m stands is. absurd (c.put.ensures.other (c.in-Err-put.is ∙ is))
+returns-in-Err-put-clause-refused g c = λ m stands is. absurd (c.put.ensures.fails.other (c.in-Err-put.is ∙ is))
 
 pub returns-in-Err-put-clause-long : goal.returns-in-Err-put-clause-long
-returns-in-Err-put-clause-long g c = λ is. c.put.ensures.long (c.in-Err-put.is ∙ is)
+returns-in-Err-put-clause-long g c = λ is. c.put.ensures.fails.long (c.in-Err-put.is ∙ is)
 
 pub returns-in-Err-clause-refused : goal.returns-in-Err-clause-refused
 returns-in-Err-clause-refused g c = λ m stands is.
