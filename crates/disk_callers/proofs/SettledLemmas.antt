@@ -25,16 +25,16 @@ itself None = refl
 itself (Some d) = refl
 
 pub passed_and_settled : (write : DiskWrite) (a b c : View) → a.waiting ≡ [] → PassesOn write a (Ok tt) b → Empties b (Ok tt) c
-    → c.under.contents ≡ option_map (written write) a.under.contents
+    → c.beneath.contents ≡ option_map (written write) a.beneath.contents
 passed_and_settled write a b c none passed emptied =
     let first : passed.swept ≡ [] = none_swept a.head a.waiting passed.swept b.waiting none passed.sweeps in
     let second : emptied.swept ≡ [] = none_swept b.head b.waiting emptied.swept c.waiting passed.all.0 emptied.sweeps in
-    emptied.all.1.contents ∙ ap (λ (x : List Entry). option_map (after_writes (map page_write x)) b.under.contents) second ∙ itself b.under.contents
-    ∙ passed.all.1.contents ∙ ap (λ (x : List Entry). option_map (after_writes (map page_write x ++ write ∷ [])) a.under.contents) first
+    emptied.all.1.contents ∙ ap (λ (x : List Entry). option_map (after_writes (map page_write x)) b.beneath.contents) second ∙ itself b.beneath.contents
+    ∙ passed.all.1.contents ∙ ap (λ (x : List Entry). option_map (after_writes (map page_write x ++ write ∷ [])) a.beneath.contents) first
 
 -- the same, by the answers
-pub stands_settled : (write : DiskWrite) (start : DiskState) (a b c : View) (r s : Result (Unit {0}) DiskError) → a.waiting ≡ [] → a.under ≡ start → PassesOn write a r b → is_err r ≡ false
-    → Empties b s c → OnOk s (c.under.synced ≡ true) → s ≡ Ok tt → StandsSettled write start c.under
+pub stands_settled : (write : DiskWrite) (start : DiskState) (a b c : View) (r s : Result (Unit {0}) DiskError) → a.waiting ≡ [] → a.beneath ≡ start → PassesOn write a r b → is_err r ≡ false
+    → Empties b s c → OnOk s (c.beneath.synced ≡ true) → s ≡ Ok tt → StandsSettled write start c.beneath
 stands_settled write start a b c (Err e) s none first passed done emptied synced is = absurd (cc done)
 stands_settled write start a b c (Ok x) (Err e) none first passed done emptied synced is = absurd (cc is)
 stands_settled write start a b c (Ok x) (Ok y) none first passed done emptied synced is = record {

@@ -23,11 +23,11 @@ use Rattle.write_queue.proofs.ListLemmas.{stands_waiting, waiting-added, waiting
 
 -- the same queue, over another state of the disk
 abbrev pub over : View → DiskState → View
-over v under = record { under = under; waiting = v.waiting; room = v.room; head = v.head; own = v.own; changed = v.changed }
+over v under = record { beneath = under; waiting = v.waiting; room = v.room; head = v.head; own = v.own; changed = v.changed }
 
 -- the same queue, with other pages that wait
 abbrev pub with_waiting : View → List Entry → View
-with_waiting v es = record { under = v.under; waiting = es; room = v.room; head = v.head; own = v.own; changed = v.changed }
+with_waiting v es = record { beneath = v.beneath; waiting = es; room = v.room; head = v.head; own = v.own; changed = v.changed }
 
 -- no label was met at first
 pub meets_later : (a b c : View) (r : Result (Unit {0}) DiskError) → MetNone a b → Meets b r c → Meets a r c
@@ -53,7 +53,7 @@ reads_kept v place sector e f once is there at = record {
 }
 
 -- another sector is read beneath
-pub reads_under : (v : View) (under : DiskState) (sector : ℕ) (page : List ℕ) (r : Result Label DiskError) → waiting_at v.waiting sector ≡ None → Reads v.under sector page r under
+pub reads_under : (v : View) (under : DiskState) (sector : ℕ) (page : List ℕ) (r : Result Label DiskError) → waiting_at v.waiting sector ≡ None → Reads v.beneath sector page r under
     → ReadsOne sector page v r (over v under)
 reads_under v under sector page r free read = record {
   waits = λ x waits. absurd (none-some x (sym free ∙ waits));
@@ -65,16 +65,16 @@ reads_under v under sector page r free read = record {
 }
 
 -- what a sweep did
-pub emptied : (old : View) (r : Result (Unit {0}) DiskError) (new : View) → Sweeping old.head old.waiting old.under r new.under new.waiting new.head → Meets old r new → Empties old r new
+pub emptied : (old : View) (r : Result (Unit {0}) DiskError) (new : View) → Sweeping old.head old.waiting old.beneath r new.beneath new.waiting new.head → Meets old r new → Empties old r new
 emptied old (Ok x) new s met = record { swept = s.swept; sweeps = s.sweeps; head = s.ends; all = (s.all.0, s.all.1); part = tt; met = met }
 emptied old (Err e) new s met = record { swept = s.swept; sweeps = s.sweeps; head = s.ends; all = tt; part = either s.part.2; met = met }
   where
-    either : Appended (map page_write s.swept) old.under new.under ⊎ Appended (map page_write s.swept ++ page_write s.part.0 ∷ []) old.under new.under → StopsAfter s.swept old new
+    either : Appended (map page_write s.swept) old.beneath new.beneath ⊎ Appended (map page_write s.swept ++ page_write s.part.0 ∷ []) old.beneath new.beneath → StopsAfter s.swept old new
     either (inl made) = inl made
     either (inr made) = inr (s.part.0, s.part.1, made)
 
 -- and no more was written then
-pub emptied_then : (old mid : View) (x : Unit {0}) (under : DiskState) (r : Result (Unit {0}) DiskError) → Empties old (Ok x) mid → RevealsSame mid.under under → Empties old r (over mid under)
+pub emptied_then : (old mid : View) (x : Unit {0}) (under : DiskState) (r : Result (Unit {0}) DiskError) → Empties old (Ok x) mid → RevealsSame mid.beneath under → Empties old r (over mid under)
 emptied_then old mid x under (Ok y) e same = record {
   swept = e.swept;
   sweeps = e.sweeps;
@@ -97,7 +97,7 @@ pub passed_none : (w : DiskWrite) (old new : View) (y : DiskError) → Empties o
 passed_none w old new y e = record { swept = e.swept; sweeps = e.sweeps; head = e.head; all = tt; part = inl e.part; met = e.met }
 
 -- all that waited was written, and the call's own write was made
-pub passed : (w : DiskWrite) (old mid : View) (x : Unit {0}) (under : DiskState) (r : Result (Unit {0}) DiskError) → Empties old (Ok x) mid → Writes w mid.under r under → PassesOn w old r (over mid under)
+pub passed : (w : DiskWrite) (old mid : View) (x : Unit {0}) (under : DiskState) (r : Result (Unit {0}) DiskError) → Empties old (Ok x) mid → Writes w mid.beneath r under → PassesOn w old r (over mid under)
 passed w old mid x under (Ok y) e made = record {
   swept = e.swept;
   sweeps = e.sweeps;
@@ -115,8 +115,8 @@ passed w old mid x under (Err y) e made = record {
   met = (tt, inl e.met.0);
 }
   where
-    either : RevealsSame mid.under under ⊎ RevealsWrite w mid.under under
-        → StopsAfter e.swept old (over mid under) ⊎ ((mid.waiting ≡ []) × Appended (map page_write e.swept ++ w ∷ []) old.under under)
+    either : RevealsSame mid.beneath under ⊎ RevealsWrite w mid.beneath under
+        → StopsAfter e.swept old (over mid under) ⊎ ((mid.waiting ≡ []) × Appended (map page_write e.swept ++ w ∷ []) old.beneath under)
     either (inl same) = inl (inl (appended_no_more (map page_write e.swept) e.all.1 same))
     either (inr t) = inr (e.all.0, appended_then (map page_write e.swept) (w ∷ []) e.all.1 (appended_one w t))
 
@@ -127,7 +127,7 @@ takes_wrong v place e f wanted page once is at differs =
     let same : e ≡ f = same_Some e f (sym is ∙ at) in
     record {
       taken = tt;
-      left = record { waiting = refl; head = refl; beneath = inl (reveals_same_itself v.under) };
+      left = record { waiting = refl; head = refl; beneath = inl (reveals_same_itself v.beneath) };
       waits = λ x waits.
           let one : f ≡ x = same_Some f x (sym (stands_waiting v.waiting once place f at e.sector (ap (λ (y : Entry). y.sector) (sym same))) ∙ waits) in
           (sym (ap (λ (y : Entry). if names y.label wanted then Ok tt else Err (Wrong y.label)) (sym one) ∙ ap (λ (b : _). if b then Ok tt else Err (Wrong f.label)) differs), refl);
@@ -152,7 +152,7 @@ takes_again v place e f wanted page once is at named =
         has_page = refl;
         rest = v.waiting;
         put = waiting-set v.waiting place f new at refl once;
-        made = inl (record { waiting = refl; head = refl; same = reveals_same_itself v.under }, (λ none. absurd (none-some f (sym none ∙ there))));
+        made = inl (record { waiting = refl; head = refl; same = reveals_same_itself v.beneath }, (λ none. absurd (none-some f (sym none ∙ there))));
       };
       left = tt;
       waits = λ x waits.
@@ -163,8 +163,8 @@ takes_again v place e f wanted page once is at named =
     }
 
 -- the label beneath was not read, or doesn't name the page
-pub takes_none : (v : View) (under : DiskState) (sector : ℕ) (wanted : Wanted) (page : List ℕ) (y : DiskError) → waiting_at v.waiting sector ≡ None → RevealsSame v.under under
-    → under.transfers ≤ v.under.transfers + 1 → TakesIn sector wanted page v (Err y) (over v under)
+pub takes_none : (v : View) (under : DiskState) (sector : ℕ) (wanted : Wanted) (page : List ℕ) (y : DiskError) → waiting_at v.waiting sector ≡ None → RevealsSame v.beneath under
+    → under.transfers ≤ v.beneath.transfers + 1 → TakesIn sector wanted page v (Err y) (over v under)
 takes_none v under sector wanted page y free same few = record {
   taken = tt;
   left = record { waiting = refl; head = refl; beneath = inl same };
@@ -174,8 +174,8 @@ takes_none v under sector wanted page y free same few = record {
 }
 
 -- the label was read, and no room could be made
-pub takes_no_room : (v : View) (under : DiskState) (new : View) (sector : ℕ) (wanted : Wanted) (page : List ℕ) (y : DiskError) → waiting_at v.waiting sector ≡ None → RevealsSame v.under under
-    → under.transfers ≤ v.under.transfers + 1 → new.under.transfers ≤ under.transfers + 1 → RoomMade (over v under) (Err y) new → TakesIn sector wanted page v (Err y) new
+pub takes_no_room : (v : View) (under : DiskState) (new : View) (sector : ℕ) (wanted : Wanted) (page : List ℕ) (y : DiskError) → waiting_at v.waiting sector ≡ None → RevealsSame v.beneath under
+    → under.transfers ≤ v.beneath.transfers + 1 → new.beneath.transfers ≤ under.transfers + 1 → RoomMade (over v under) (Err y) new → TakesIn sector wanted page v (Err y) new
 takes_no_room v under new sector wanted page y free same few more room = record {
   taken = tt;
   left = record { waiting = room.left.waiting; head = room.left.head; beneath = either room.left.beneath };
@@ -184,14 +184,14 @@ takes_no_room v under new sector wanted page y free same few more room = record 
   few = omega (arith, few, more);
 }
   where
-    either : RevealsSame under new.under ⊎ ((first : Entry) × (length v.waiting ≡ v.room) × IsFirst v.head v.waiting first × RevealsWrite (page_write first) under new.under)
-        → RevealsSame v.under new.under ⊎ ((first : Entry) × (length v.waiting ≡ v.room) × IsFirst v.head v.waiting first × RevealsWrite (page_write first) v.under new.under)
+    either : RevealsSame under new.beneath ⊎ ((first : Entry) × (length v.waiting ≡ v.room) × IsFirst v.head v.waiting first × RevealsWrite (page_write first) under new.beneath)
+        → RevealsSame v.beneath new.beneath ⊎ ((first : Entry) × (length v.waiting ≡ v.room) × IsFirst v.head v.waiting first × RevealsWrite (page_write first) v.beneath new.beneath)
     either (inl s) = inl (reveals_same_then same s)
     either (inr w) = inr (w.0, w.1, w.2, reveals_write_later (page_write w.0) same w.3)
 
 -- the label was read and room was made, and one page more waits
-pub takes_more : (v : View) (under : DiskState) (mid : View) (e : Entry) → waiting_at v.waiting e.sector ≡ None → RevealsSame v.under under
-    → under.transfers ≤ v.under.transfers + 1 → mid.under.transfers ≤ under.transfers + 1 → RoomMade (over v under) (Ok tt) mid → IsOnce mid.waiting → waiting_at mid.waiting e.sector ≡ None
+pub takes_more : (v : View) (under : DiskState) (mid : View) (e : Entry) → waiting_at v.waiting e.sector ≡ None → RevealsSame v.beneath under
+    → under.transfers ≤ v.beneath.transfers + 1 → mid.beneath.transfers ≤ under.transfers + 1 → RoomMade (over v under) (Ok tt) mid → IsOnce mid.waiting → waiting_at mid.waiting e.sector ≡ None
     → TakesIn e.sector e.wanted e.page v (Ok tt) (with_waiting mid (mid.waiting ++ e ∷ []))
 takes_more v under mid e free same few more room once none = record {
   taken = record {
@@ -227,10 +227,10 @@ takes_more v under mid e free same few more room once none = record {
 
 -- there was room
 pub room_there : (v : View) → length v.waiting < v.room → RoomMade v (Ok tt) v
-room_there v room = record { made = inl (record { waiting = refl; head = refl; same = reveals_same_itself v.under }, room); left = tt; met = ((refl, refl), tt) }
+room_there v room = record { made = inl (record { waiting = refl; head = refl; same = reveals_same_itself v.beneath }, room); left = tt; met = ((refl, refl), tt) }
 
 -- the first page was written out, or it waits still
-pub room_out : (old : View) (r : Result (Unit {0}) DiskError) (new : View) → length old.waiting ≡ old.room → WritesOut old.head old.waiting old.under r new.under new.waiting new.head → Meets old r new → RoomMade old r new
+pub room_out : (old : View) (r : Result (Unit {0}) DiskError) (new : View) → length old.waiting ≡ old.room → WritesOut old.head old.waiting old.beneath r new.beneath new.waiting new.head → Meets old r new → RoomMade old r new
 room_out old (Ok x) new full out met = record {
   made = inr (record { full = full; first = out.first; is_first = out.is_first; less = out.out.1; head = out.out.2; wrote = out.out.0 });
   left = tt;
@@ -238,7 +238,7 @@ room_out old (Ok x) new full out met = record {
 }
 room_out old (Err y) new full out met = record { made = tt; left = record { waiting = out.stays.0; head = out.stays.1; beneath = either out.stays.2 }; met = met }
   where
-    either : RevealsSame old.under new.under ⊎ RevealsWrite (page_write out.first) old.under new.under
-        → RevealsSame old.under new.under ⊎ ((first : Entry) × (length old.waiting ≡ old.room) × IsFirst old.head old.waiting first × RevealsWrite (page_write first) old.under new.under)
+    either : RevealsSame old.beneath new.beneath ⊎ RevealsWrite (page_write out.first) old.beneath new.beneath
+        → RevealsSame old.beneath new.beneath ⊎ ((first : Entry) × (length old.waiting ≡ old.room) × IsFirst old.head old.waiting first × RevealsWrite (page_write first) old.beneath new.beneath)
     either (inl same) = inl same
     either (inr wrote) = inr (out.first, full, out.is_first, wrote)

@@ -115,8 +115,8 @@ same_after [] ys zs is = is
 same_after (x ∷ xs) ys zs is = let rest : xs ++ ys ≡ xs ++ zs = cc is in same_after xs ys zs rest
 
 -- these writes were made, and each of their crash states is between
-module _ (old new : View) (ws : List DiskWrite) (made : Appended ws old.under new.under) where
-  from_crash_states : ((d exit : List Sector) (k : ℕ) → old.under.contents ≡ Some d → revealed_by new ≡ Some exit → IsBetween d (laid old.waiting d) exit (crash_state d ws k)) → CrashStatesBetween old new
+module _ (old new : View) (ws : List DiskWrite) (made : Appended ws old.beneath new.beneath) where
+  from_crash_states : ((d exit : List Sector) (k : ℕ) → old.beneath.contents ≡ Some d → revealed_by new ≡ Some exit → IsBetween d (laid old.waiting d) exit (crash_state d ws k)) → CrashStatesBetween old new
   from_crash_states each d entry exit earlier writes k revealed here there had has =
       let rest : writes ≡ ws = same_after earlier writes ws (same_Some (earlier ++ writes) (earlier ++ ws) (sym has ∙ made.revealed ∙ ap (option_map (λ (l : List DiskWrite). l ++ ws)) had)) in
       let first : laid old.waiting d ≡ entry = same_Some (laid old.waiting d) entry (sym (ap (option_map (laid old.waiting)) revealed) ∙ here) in
@@ -124,10 +124,10 @@ module _ (old new : View) (ws : List DiskWrite) (made : Appended ws old.under ne
       (subst (λ (x : List DiskWrite). IsBetween d (laid old.waiting d) exit (crash_state d x k)) (sym rest) (each d exit k revealed there))
 
 -- pages that waited were written, or none
-from_pages : (old new : View) (swept : List Entry) → AreSome old.waiting swept → Appended (map page_write swept) old.under new.under → CrashStatesBetween old new
+from_pages : (old new : View) (swept : List Entry) → AreSome old.waiting swept → Appended (map page_write swept) old.beneath new.beneath → CrashStatesBetween old new
 from_pages old new swept some made = from_crash_states old new (map page_write swept) made (λ d exit k revealed there. between_pages old.waiting swept d exit k some)
 
-pub crash_states_same : (old new : View) → RevealsSame old.under new.under → CrashStatesBetween old new
+pub crash_states_same : (old new : View) → RevealsSame old.beneath new.beneath → CrashStatesBetween old new
 crash_states_same old new same = from_pages old new [] (λ k e is. absurd (none-some e is)) (appended_none same)
 
 from_stop : (old new : View) (swept : List Entry) → Sweeps old.head old.waiting swept new.waiting → StopsAfter swept old new → CrashStatesBetween old new
@@ -137,7 +137,7 @@ from_stop old new swept sweeps (inr made) =
     from_pages old new (swept ++ next ∷ [])
     (some_more old.waiting swept next (λ k e is. some_swept old.head old.waiting swept new.waiting sweeps e k is)
     (waited_before old.head old.waiting swept new.waiting sweeps next.sector next made.1.there))
-    (subst (λ (x : List DiskWrite). Appended x old.under new.under) (sym (map_more swept next)) made.2)
+    (subst (λ (x : List DiskWrite). Appended x old.beneath new.beneath) (sym (map_more swept next)) made.2)
 
 pub crash_states_emptied : (old : View) (r : Result (Unit {0}) DiskError) (new : View) → Empties old r new → CrashStatesBetween old new
 crash_states_emptied old (Ok x) new e = from_stop old new e.swept e.sweeps (inl e.all.1)
@@ -145,10 +145,10 @@ crash_states_emptied old (Err x) new e = from_stop old new e.swept e.sweeps e.pa
 
 -- pages that waited were written, and then the call's own write
 sent : (write : DiskWrite) (old new : View) (swept : List Entry) → Sweeps old.head old.waiting swept new.waiting → new.waiting ≡ []
-    → Appended (map page_write swept ++ write ∷ []) old.under new.under → CrashStatesBetween old new
+    → Appended (map page_write swept ++ write ∷ []) old.beneath new.beneath → CrashStatesBetween old new
 sent write old new swept sweeps none made = from_crash_states old new (map page_write swept ++ write ∷ []) made (λ d exit k revealed there. either d exit k revealed there (leb_tells k (length (map page_write swept))))
   where
-    either : (d exit : List Sector) (k : ℕ) → old.under.contents ≡ Some d → revealed_by new ≡ Some exit
+    either : (d exit : List Sector) (k : ℕ) → old.beneath.contents ≡ Some d → revealed_by new ≡ Some exit
         → ((leb k (length (map page_write swept)) ≡ true) × (k ≤ length (map page_write swept))) ⊎ ((leb k (length (map page_write swept)) ≡ false) × (length (map page_write swept) < k))
         → IsBetween d (laid old.waiting d) exit (crash_state d (map page_write swept ++ write ∷ []) k)
     either d exit k revealed there (inl few) =
@@ -157,7 +157,7 @@ sent write old new swept sweeps none made = from_crash_states old new (map page_
     either d exit k revealed there (inr past) =
         let end : crash_state d (map page_write swept ++ write ∷ []) k ≡ after_writes (map page_write swept ++ write ∷ []) d =
         ap (λ (l : List DiskWrite). after_writes l d) (take_all k (map page_write swept ++ write ∷ []) (omega (arith, past.1, length-append (map page_write swept) (write ∷ [])))) in
-        let now : new.under.contents ≡ Some (after_writes (map page_write swept ++ write ∷ []) d) = made.contents ∙ ap (option_map (after_writes (map page_write swept ++ write ∷ []))) revealed in
+        let now : new.beneath.contents ≡ Some (after_writes (map page_write swept ++ write ∷ []) d) = made.contents ∙ ap (option_map (after_writes (map page_write swept ++ write ∷ []))) revealed in
         let out : laid new.waiting (after_writes (map page_write swept ++ write ∷ []) d) ≡ exit =
         same_Some (laid new.waiting (after_writes (map page_write swept ++ write ∷ []) d)) exit (sym (ap (option_map (laid new.waiting)) now) ∙ there) in
         let same : crash_state d (map page_write swept ++ write ∷ []) k ≡ exit =
@@ -168,12 +168,12 @@ pub crash_states_passed : (write : DiskWrite) (old : View) (r : Result (Unit {0}
 crash_states_passed write old (Ok x) new p = sent write old new p.swept p.sweeps p.all.0 p.all.1
 crash_states_passed write old (Err x) new p = either p.part
   where
-    either : StopsAfter p.swept old new ⊎ ((new.waiting ≡ []) × Appended (map page_write p.swept ++ write ∷ []) old.under new.under) → CrashStatesBetween old new
+    either : StopsAfter p.swept old new ⊎ ((new.waiting ≡ []) × Appended (map page_write p.swept ++ write ∷ []) old.beneath new.beneath) → CrashStatesBetween old new
     either (inl stop) = from_stop old new p.swept p.sweeps stop
     either (inr made) = sent write old new p.swept p.sweeps made.0 made.1
 
 -- the first page of the sweep was written
-from_first : (old new : View) (e : Entry) → waiting_at old.waiting e.sector ≡ Some e → RevealsWrite (page_write e) old.under new.under → CrashStatesBetween old new
+from_first : (old new : View) (e : Entry) → waiting_at old.waiting e.sector ≡ Some e → RevealsWrite (page_write e) old.beneath new.beneath → CrashStatesBetween old new
 from_first old new e waits made = from_pages old new (e ∷ []) (some_more old.waiting [] e (λ k f is. absurd (none-some f is)) waits) (appended_one (page_write e) made)
 
 pub crash_states_taken : (sector : ℕ) (wanted : Wanted) (page : List ℕ) (old : View) (r : Result (Unit {0}) DiskError) (new : View) → TakesIn sector wanted page old r new → CrashStatesBetween old new
@@ -185,7 +185,7 @@ crash_states_taken sector wanted page old (Ok x) new t = either t.taken.made
     either (inr out) = from_first old new out.0.first out.0.is_first.there out.0.wrote
 crash_states_taken sector wanted page old (Err x) new t = either t.left.beneath
   where
-    either : RevealsSame old.under new.under ⊎ ((first : Entry) × (length old.waiting ≡ old.room) × IsFirst old.head old.waiting first × RevealsWrite (page_write first) old.under new.under)
+    either : RevealsSame old.beneath new.beneath ⊎ ((first : Entry) × (length old.waiting ≡ old.room) × IsFirst old.head old.waiting first × RevealsWrite (page_write first) old.beneath new.beneath)
         → CrashStatesBetween old new
     either (inl same) = crash_states_same old new same
     either (inr out) = from_first old new out.0 out.2.there out.3

@@ -257,11 +257,11 @@ data_later u v es fs t own counted later more n wanted page r moved same w =
     (record { later = omega (arith, moved.later, same); by_one = omega (arith, moved.by_one, same) }) (omega arith) n wanted page r w
 
 -- where the queue is synced nothing waits, and what it reveals is what stands beneath
-pub synced_beneath : (v : View) (t : ℕ) → (queued v.under v.waiting t v.own).synced ≡ true → StandsBeneath (queued v.under v.waiting t v.own) v
+pub synced_beneath : (v : View) (t : ℕ) → (queued v.beneath v.waiting t v.own).synced ≡ true → StandsBeneath (queued v.beneath v.waiting t v.own) v
 synced_beneath v t is =
-    let b = both (length v.waiting == 0) v.under.synced is in
+    let b = both (length v.waiting == 0) v.beneath.synced is in
     let none : v.waiting ≡ [] = empty v.waiting (eqb-true (length v.waiting) 0 b.0) in
-    record { waiting = none; contents = sym (ap (λ (l : List Entry). option_map (laid l) v.under.contents) none ∙ same v.under.contents); synced = b.1 }
+    record { waiting = none; contents = sym (ap (λ (l : List Entry). option_map (laid l) v.beneath.contents) none ∙ same v.beneath.contents); synced = b.1 }
   where
     empty : (l : List Entry) → length l ≡ 0 → l ≡ []
     empty [] is = refl

@@ -21,9 +21,9 @@ revealed_none (Some d) = ap (λ (x : List Sector). Some x) (laid-none d)
 
 -- a queue that was made
 pub starts_of : (under : DiskState) (room before : ℕ) (v : View) (t : Tally) → before ≡ under.faults → before < 2 ^ 64 → v ≡ new_view under room → t ≡ new_tally under
-    → Starts under (stopping t.begun before t.no_sync (queued v.under v.waiting t.transfers v.own))
+    → Starts under (stopping t.begun before t.no_sync (queued v.beneath v.waiting t.transfers v.own))
 starts_of under room before v t same few is counts =
-    subst (λ (w : View). Starts under (stopping t.begun before t.no_sync (queued w.under w.waiting t.transfers w.own))) (sym is)
+    subst (λ (w : View). Starts under (stopping t.begun before t.no_sync (queued w.beneath w.waiting t.transfers w.own))) (sym is)
     (subst (λ (u : Tally). Starts under (stopping u.begun before u.no_sync (queued under [] u.transfers 0))) (sym counts) (record {
       sectors = refl;
       contents = revealed_none under.contents;

@@ -23,7 +23,7 @@ pub record MetOther (before : ℕ) (new : View) : Type 0 where
   pub entry : Entry
   pub found : Label
   pub waits : waiting_at new.waiting entry.sector ≡ Some entry
-  pub stands : HasLabel new.under entry.sector found
+  pub stands : HasLabel new.beneath entry.sector found
   pub other : names found entry.wanted ≡ false
   pub counted : new.own ≡ min (before + 1) (2 ^ 64 - 1)
   pub revealed : new.changed ≡ Some (entry.sector, entry.wanted, found)
@@ -37,25 +37,25 @@ Meets old result new = OnOk result (MetNone old new) × OnErr result (MetNone ol
 pub record ReadsOne (sector : ℕ) (page : List ℕ) (old : View) (result : Result Label DiskError) (new : View) : Type 0
   where
     pub waits : (e : Entry) → waiting_at old.waiting sector ≡ Some e
-        → (result ≡ Ok e.label) × (page ≡ e.page) × (new.under ≡ old.under)
-    pub free : waiting_at old.waiting sector ≡ None → Reads old.under sector page result new.under
+        → (result ≡ Ok e.label) × (page ≡ e.page) × (new.beneath ≡ old.beneath)
+    pub free : waiting_at old.waiting sector ≡ None → Reads old.beneath sector page result new.beneath
     pub waiting : new.waiting ≡ old.waiting
     pub head : new.head ≡ old.head
     pub met : MetNone old new
-    pub few : new.under.transfers ≤ old.under.transfers + 1
+    pub few : new.beneath.transfers ≤ old.beneath.transfers + 1
 
 -- The disk beneath reveals of these pages more; or of these and of the next page of the sweep, which waits still.
 abbrev pub StopsAfter : List Entry → View → View → Type 0
-StopsAfter swept old new = Appended (map page_write swept) old.under new.under
+StopsAfter swept old new = Appended (map page_write swept) old.beneath new.beneath
     ⊎ ((next : Entry) × IsFirst new.head new.waiting next
-    × Appended (map page_write swept ++ page_write next ∷ []) old.under new.under)
+    × Appended (map page_write swept ++ page_write next ∷ []) old.beneath new.beneath)
 
 -- All that waited is written out in a sweep, or a prefix of it.
 pub record Empties (old : View) (result : Result (Unit {0}) DiskError) (new : View) : Type 0 where
   pub swept : List Entry
   pub sweeps : Sweeps old.head old.waiting swept new.waiting
   pub head : new.head ≡ head_after old.head swept
-  pub all : OnOk result ((new.waiting ≡ []) × Appended (map page_write swept) old.under new.under)
+  pub all : OnOk result ((new.waiting ≡ []) × Appended (map page_write swept) old.beneath new.beneath)
   pub part : OnErr result (StopsAfter swept old new)
   pub met : Meets old result new
 
@@ -64,16 +64,16 @@ pub record PassesOn (write : DiskWrite) (old : View) (result : Result (Unit {0})
   pub swept : List Entry
   pub sweeps : Sweeps old.head old.waiting swept new.waiting
   pub head : new.head ≡ head_after old.head swept
-  pub all : OnOk result ((new.waiting ≡ []) × Appended (map page_write swept ++ write ∷ []) old.under new.under)
+  pub all : OnOk result ((new.waiting ≡ []) × Appended (map page_write swept ++ write ∷ []) old.beneath new.beneath)
   pub part : OnErr result (StopsAfter swept old new
-      ⊎ ((new.waiting ≡ []) × Appended (map page_write swept ++ write ∷ []) old.under new.under))
+      ⊎ ((new.waiting ≡ []) × Appended (map page_write swept ++ write ∷ []) old.beneath new.beneath))
   pub met : Meets old result new
 
 -- nothing was written out
 pub record IsStill (old : View) (rest : List Entry) (new : View) : Type 0 where
   pub waiting : rest ≡ old.waiting
   pub head : new.head ≡ old.head
-  pub same : RevealsSame old.under new.under
+  pub same : RevealsSame old.beneath new.beneath
 
 -- there was no room, and the first page of the sweep was written out
 pub record FirstOut (old : View) (rest : List Entry) (new : View) : Type 0 where
@@ -82,7 +82,7 @@ pub record FirstOut (old : View) (rest : List Entry) (new : View) : Type 0 where
   pub is_first : IsFirst old.head old.waiting first
   pub less : IsLess old.waiting first rest
   pub head : new.head ≡ first.sector
-  pub wrote : RevealsWrite (page_write first) old.under new.under
+  pub wrote : RevealsWrite (page_write first) old.beneath new.beneath
 
 -- The page waits for its sector. Beside it waits what waited before; but where there was no room, all but the first
 -- of the sweep.
@@ -101,9 +101,9 @@ pub record Taken (sector : ℕ) (wanted : Wanted) (page : List ℕ) (old new : V
 pub record LeftOut (old new : View) : Type 0 where
   pub waiting : new.waiting ≡ old.waiting
   pub head : new.head ≡ old.head
-  pub beneath : RevealsSame old.under new.under
+  pub beneath : RevealsSame old.beneath new.beneath
       ⊎ ((first : Entry) × (length old.waiting ≡ old.room) × IsFirst old.head old.waiting first
-      × RevealsWrite (page_write first) old.under new.under)
+      × RevealsWrite (page_write first) old.beneath new.beneath)
 
 -- A page is let wait, or it isn't. The label that was kept decides on a sector for which a page waits, and nothing
 -- moves beneath.
@@ -112,9 +112,9 @@ pub record TakesIn (sector : ℕ) (wanted : Wanted) (page : List ℕ) (old : Vie
   pub taken : OnOk result (Taken sector wanted page old new)
   pub left : OnErr result (LeftOut old new)
   pub waits : (e : Entry) → waiting_at old.waiting sector ≡ Some e
-      → (result ≡ (if names e.label wanted then Ok tt else Err (Wrong e.label))) × (new.under ≡ old.under)
+      → (result ≡ (if names e.label wanted then Ok tt else Err (Wrong e.label))) × (new.beneath ≡ old.beneath)
   pub met : Meets old result new
-  pub few : new.under.transfers ≤ old.under.transfers + 2
+  pub few : new.beneath.transfers ≤ old.beneath.transfers + 2
 
 -- a call that names a sector was counted
 pub record CountsCall (old new : Tally) : Type 0 where

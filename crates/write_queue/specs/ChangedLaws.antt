@@ -16,7 +16,7 @@ module _ {D A : Type 0} {G : Ghosts D} (q : RunQueue D A G) (c : ℕ × Wanted �
   changed_differs = q.queue.differs c is
 
   pub changed_unrevealed : (run_state q).contents ≡ None
-  changed_unrevealed = by (G.state q.queue.under).contents (λ d. q.queue.unchanged d)
+  changed_unrevealed = by (G.state q.queue.beneath).contents (λ d. q.queue.unchanged d)
     where
       by : (o : Option (List Sector)) → ((d : List Sector) → o ≡ Some d → q.queue.changed ≡ None) → option_map (laid q.queue.entries.items) o ≡ None
       by None unchanged = refl

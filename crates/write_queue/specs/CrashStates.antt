@@ -9,7 +9,7 @@ use Rattle.write_queue.specs.View.{View}
 
 -- the sectors that a queue reveals
 abbrev pub revealed_by : View → Option (List Sector)
-revealed_by view = option_map (laid view.waiting) view.under.contents
+revealed_by view = option_map (laid view.waiting) view.beneath.contents
 
 -- the labels of sectors
 abbrev pub labels_of : List Sector → List Label
@@ -30,7 +30,7 @@ pub record IsBetween (beneath entry exit m : List Sector) : Type 0 where
 -- the queue revealed at its entry and at its exit.
 abbrev pub CrashStatesBetween : View → View → Type 0
 CrashStatesBetween old new =
-    (d entry exit : List Sector) (earlier writes : List DiskWrite) (k : ℕ) → old.under.contents ≡ Some d
+    (d entry exit : List Sector) (earlier writes : List DiskWrite) (k : ℕ) → old.beneath.contents ≡ Some d
     → revealed_by old ≡ Some entry → revealed_by new ≡ Some exit
-    → old.under.writes ≡ Some earlier → new.under.writes ≡ Some (earlier ++ writes)
+    → old.beneath.writes ≡ Some earlier → new.beneath.writes ≡ Some (earlier ++ writes)
     → IsBetween d entry exit (crash_state d writes k)

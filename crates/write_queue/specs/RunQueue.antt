@@ -18,7 +18,7 @@ module _ {D A : Type 0} {G : Ghosts D} where
 
   -- the disk beneath
   abbrev pub held_by : RunQueue D A G → D
-  held_by q = q.queue.under
+  held_by q = q.queue.beneath
 
   -- the label that was met and had changed
   abbrev pub changed_by : RunQueue D A G → Option (ℕ × Wanted × Label)

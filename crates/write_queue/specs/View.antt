@@ -8,7 +8,7 @@ use Rattle.write_queue.specs.declared.entry.Entry.{Entry}
 -- The disk beneath, the pages that wait, how many may wait, the sector that was written out last, how many labels
 -- were met that had changed, and the last of these.
 pub record View : Type 0 where
-  pub under : DiskState
+  pub beneath : DiskState
   pub waiting : List Entry
   pub room : ℕ
   pub head : ℕ
@@ -24,7 +24,7 @@ pub record Tally : Type 0 where
 
 -- an empty queue
 abbrev pub new_view : DiskState → ℕ → View
-new_view under room = record { under = under; waiting = []; room = room; head = 0; own = 0; changed = None }
+new_view under room = record { beneath = under; waiting = []; room = room; head = 0; own = 0; changed = None }
 
 -- no call yet
 abbrev pub new_tally : DiskState → Tally
@@ -40,5 +40,5 @@ Covers spare begun transfers no_sync beneath waiting =
 -- The sectors that were moved beneath are at most two for each call that names a sector, and one for each syncing that
 -- did not answer Ok. Until the counts stand at their end, the pages that wait are paid for as well.
 pub record IsPaid (view : View) (tally : Tally) : Type 0 where
-  pub moved : view.under.transfers ≤ tally.begun + 2 * tally.transfers + tally.no_sync
-  pub waiting : Covers 0 tally.begun tally.transfers tally.no_sync view.under.transfers (length view.waiting)
+  pub moved : view.beneath.transfers ≤ tally.begun + 2 * tally.transfers + tally.no_sync
+  pub waiting : Covers 0 tally.begun tally.transfers tally.no_sync view.beneath.transfers (length view.waiting)

@@ -15,20 +15,20 @@ impl<D: Disk, A: Allocator> Disk for QueueOver<D, A> {
 
     ghost state = { λ q. state_of q };
 
-    ghost whole = { λ q all revealed. revealed_whole (D.state q.under) q.entries.items (D.whole q.under) all
+    ghost whole = { λ q all revealed. revealed_whole (D.state q.beneath) q.entries.items (D.whole q.beneath) all
         revealed };
 
-    ghost in_form = { λ q all revealed. revealed_in_form (D.state q.under) q.entries.items q.waiting
-        (D.in_form q.under) all revealed };
+    ghost in_form = { λ q all revealed. revealed_in_form (D.state q.beneath) q.entries.items q.waiting
+        (D.in_form q.beneath) all revealed };
 
-    ghost few = { λ q. D.few q.under };
+    ghost few = { λ q. D.few q.beneath };
 
     ghost few_transfers = { λ q. q.few_transfers };
 
     ghost sync_counts = { λ q. no_syncs (state_of q).synced };
 
     fn sectors(&self) -> u32 {
-        self.under.sectors()
+        self.beneath.sectors()
     }
 
     fn read(&mut self, sector: u32, page: &mut Page) -> Result<Label, DiskError>
@@ -46,7 +46,7 @@ impl<D: Disk, A: Allocator> Disk for QueueOver<D, A> {
                 *page = waiting;
                 Ok(entry.label)
             }
-            None => self.under.read(sector, page),
+            None => self.beneath.read(sector, page),
         }
     }
 
@@ -61,7 +61,7 @@ impl<D: Disk, A: Allocator> Disk for QueueOver<D, A> {
     {
         self.transfers = self.transfers.saturating_add(1);
         self.empty()?;
-        self.under.write(sector, label, page)
+        self.beneath.write(sector, label, page)
     }
 
     fn write_label(&mut self, sector: u32, label: &Label) -> Result<(), DiskError>
@@ -75,7 +75,7 @@ impl<D: Disk, A: Allocator> Disk for QueueOver<D, A> {
     {
         self.transfers = self.transfers.saturating_add(1);
         self.empty()?;
-        self.under.write_label(sector, label)
+        self.beneath.write_label(sector, label)
     }
 
     fn write_data(&mut self, sector: u32, wanted: Wanted, page: &Page) -> Result<(), DiskError>
@@ -96,7 +96,7 @@ impl<D: Disk, A: Allocator> Disk for QueueOver<D, A> {
 
     fn sync(&mut self) -> Result<(), DiskError>
         ensures syncs { Syncs (state_of self.old) result (state_of self.new) }
-        ensures synced { OnOk result ((view_of self.new).under.synced ≡ true) }
+        ensures synced { OnOk result ((view_of self.new).beneath.synced ≡ true) }
         ensures beneath { Empties (view_of self.old) result (view_of self.new) }
         ensures crash_states { CrashStatesBetween (view_of self.old) (view_of self.new) }
         ensures counts { CountsSync (tally_of self.old) result (tally_of self.new) }
@@ -104,7 +104,7 @@ impl<D: Disk, A: Allocator> Disk for QueueOver<D, A> {
         let before = self.no_sync;
         self.no_sync = before.saturating_add(1);
         self.empty()?;
-        self.under.sync()?;
+        self.beneath.sync()?;
         self.no_sync = before;
         Ok(())
     }
@@ -114,6 +114,6 @@ impl<D: Disk, A: Allocator> Disk for QueueOver<D, A> {
     }
 
     fn faults(&self) -> u64 {
-        self.under.faults().saturating_add(self.own)
+        self.beneath.faults().saturating_add(self.own)
     }
 }

@@ -16,12 +16,12 @@ impl<D: Disk, A: Allocator> QueueOver<D, A> {
     pub(crate) fn write_first(&mut self) -> Result<(), DiskError>
         requires some { 0 < length self.old.entries.items }
         requires credit { Covers 1 self.old.begun self.old.transfers self.old.no_sync
-            (D.state self.old.under).transfers (length self.old.entries.items) }
-        ensures out { WritesOut self.old.head self.old.entries.items (D.state self.old.under) result
-            (D.state self.new.under) self.new.entries.items self.new.head }
+            (D.state self.old.beneath).transfers (length self.old.entries.items) }
+        ensures out { WritesOut self.old.head self.old.entries.items (D.state self.old.beneath) result
+            (D.state self.new.beneath) self.new.entries.items self.new.head }
         ensures met { Meets (view_of self.old) result (view_of self.new) }
         ensures credit { OnOk result (Covers 1 self.new.begun self.new.transfers self.new.no_sync
-            (D.state self.new.under).transfers (length self.new.entries.items)) }
+            (D.state self.new.beneath).transfers (length self.new.entries.items)) }
         ensures revealed { (state_of self.new).contents ≡ (state_of self.old).contents }
         ensures later { (state_of self.old).faults ≤ (state_of self.new).faults }
         ensures fails { FailsWith result (state_of self.old) (state_of self.new) }
@@ -30,7 +30,7 @@ impl<D: Disk, A: Allocator> QueueOver<D, A> {
         let place = self.first_place();
         let entry = self.entries[place];
         match self
-            .under
+            .beneath
             .write_data(entry.sector, entry.wanted, &entry.page)
         {
             Ok(()) => {
@@ -53,12 +53,12 @@ impl<D: Disk, A: Allocator> QueueOver<D, A> {
     // Writes all pages that wait beneath, in a sweep.
     pub(crate) fn empty(&mut self) -> Result<(), DiskError>
         requires credit { Covers 1 self.old.begun self.old.transfers self.old.no_sync
-            (D.state self.old.under).transfers (length self.old.entries.items) }
-        ensures swept { Sweeping self.old.head self.old.entries.items (D.state self.old.under) result
-            (D.state self.new.under) self.new.entries.items self.new.head }
+            (D.state self.old.beneath).transfers (length self.old.entries.items) }
+        ensures swept { Sweeping self.old.head self.old.entries.items (D.state self.old.beneath) result
+            (D.state self.new.beneath) self.new.entries.items self.new.head }
         ensures met { Meets (view_of self.old) result (view_of self.new) }
         ensures credit { OnOk result (Covers 1 self.new.begun self.new.transfers self.new.no_sync
-            (D.state self.new.under).transfers (length self.new.entries.items)) }
+            (D.state self.new.beneath).transfers (length self.new.entries.items)) }
         ensures revealed { (state_of self.new).contents ≡ (state_of self.old).contents }
         ensures later { (state_of self.old).faults ≤ (state_of self.new).faults }
         ensures fails { FailsWith result (state_of self.old) (state_of self.new) }

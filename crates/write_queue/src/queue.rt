@@ -18,7 +18,7 @@ use std::alloc::{AllocError, Allocator};
 /// written or the queue is settled. What wasn't settled is lost with the queue.
 #[derive(Drop)]
 pub struct QueueOver<D: Disk, A: Allocator> {
-    pub(crate) under: D,
+    pub(crate) beneath: D,
     pub(crate) entries: Vec<Entry, A>,
     // Of the entries, so that a search looks at numbers that stand together.
     pub(crate) sectors: Vec<u32, A>,
@@ -38,18 +38,18 @@ pub struct QueueOver<D: Disk, A: Allocator> {
     // The labels that were met and had changed, and the last of them.
     pub(crate) own: u64,
     pub(crate) changed: Option<(u32, Wanted, Label)>,
-    ghost waiting: { AreWaiting (D.state under) entries.items },
+    ghost waiting: { AreWaiting (D.state beneath) entries.items },
     ghost listed: { sectors.items ≡ map (λ e. e.sector) entries.items },
     ghost filtered: { AdmitsWaiting filter entries.items },
     ghost freed: { IsFreeHead head_free head entries.items },
     ghost fits: { length entries.items ≤ room },
     ghost room_kept: { (room ≤ vec_capacity entries) × (room ≤ vec_capacity sectors) },
     ghost rooms: { (1 ≤ room) × (room ≤ 256) },
-    ghost unchanged: { (d : List _) → (D.state under).contents ≡ Some d → changed ≡ None },
+    ghost unchanged: { (d : List _) → (D.state beneath).contents ≡ Some d → changed ≡ None },
     ghost counted: { changed ≡ None → own ≡ 0 },
     ghost differs: { ForSome changed (λ c. names c.2 c.1 ≡ false) },
     ghost few_transfers: { transfers < 2 ^ 64 },
-    ghost paid: { Covers 0 begun transfers no_sync (D.state under).transfers
+    ghost paid: { Covers 0 begun transfers no_sync (D.state beneath).transfers
         (length entries.items) },
 }
 
@@ -87,7 +87,7 @@ impl<D: Disk, A: Allocator + Clone> QueueOver<D, A> {
             Ok((entries, sectors)) => {
                 let begun = disk.transfers();
                 Ok(QueueOver {
-                    under: disk,
+                    beneath: disk,
                     entries,
                     sectors,
                     filter: Filter::empty(),
@@ -140,7 +140,7 @@ impl<D: Disk, A: Allocator> QueueOver<D, A> {
             (view_of self) }
     {
         let QueueOver {
-            under,
+            beneath,
             entries: _,
             sectors: _,
             filter: _,
@@ -154,7 +154,7 @@ impl<D: Disk, A: Allocator> QueueOver<D, A> {
             own: _,
             changed: _,
         } = self;
-        under
+        beneath
     }
 
     /// How many pages wait.
@@ -162,7 +162,7 @@ impl<D: Disk, A: Allocator> QueueOver<D, A> {
         ensures count { result ≡ length (view_of self.now).waiting }
         ensures fits { result ≤ (view_of self.now).room }
         ensures room { (view_of self.now).room ≤ 256 }
-        ensures each { AreWaiting (view_of self.now).under (view_of self.now).waiting }
+        ensures each { AreWaiting (view_of self.now).beneath (view_of self.now).waiting }
     {
         self.entries.len() as u32
     }
@@ -170,10 +170,10 @@ impl<D: Disk, A: Allocator> QueueOver<D, A> {
     /// How many sectors were moved beneath since the disk was made: since the queue was made at most
     /// two for each of its calls that name a sector, and one for each syncing that failed.
     pub fn moved_beneath(&self) -> u64
-        ensures value { result ≡ (view_of self.now).under.transfers }
+        ensures value { result ≡ (view_of self.now).beneath.transfers }
         ensures paid { IsPaid (view_of self.now) (tally_of self.now) }
     {
-        self.under.transfers()
+        self.beneath.transfers()
     }
 
     /// The sector in which another label was found than that of the page that waits for it, with
@@ -181,7 +181,7 @@ impl<D: Disk, A: Allocator> QueueOver<D, A> {
     pub fn changed(&self) -> Option<(u32, Wanted, Label)>
         ensures value { result ≡ (view_of self.now).changed }
         ensures differs { IfSome result (λ c. names c.2 c.1 ≡ false) }
-        ensures untold { IsSome (view_of self.now).under.contents → result ≡ None }
+        ensures untold { IsSome (view_of self.now).beneath.contents → result ≡ None }
         ensures counted { result ≡ None → (view_of self.now).own ≡ 0 }
     {
         self.changed

@@ -75,13 +75,13 @@ impl<D: Disk, A: Allocator> Disk for RunQueue<D, A> {
 
     ghost state = { λ q. run_state q };
 
-    ghost whole = { λ q all revealed. revealed_whole (D.state q.queue.under) q.queue.entries.items
-        (D.whole q.queue.under) all revealed };
+    ghost whole = { λ q all revealed. revealed_whole (D.state q.queue.beneath) q.queue.entries.items
+        (D.whole q.queue.beneath) all revealed };
 
-    ghost in_form = { λ q all revealed. revealed_in_form (D.state q.queue.under)
-        q.queue.entries.items q.queue.waiting (D.in_form q.queue.under) all revealed };
+    ghost in_form = { λ q all revealed. revealed_in_form (D.state q.queue.beneath)
+        q.queue.entries.items q.queue.waiting (D.in_form q.queue.beneath) all revealed };
 
-    ghost few = { λ q. D.few q.queue.under };
+    ghost few = { λ q. D.few q.queue.beneath };
 
     ghost few_transfers = { λ q. q.queue.few_transfers };
 

@@ -56,17 +56,17 @@ impl<D: Disk, A: Allocator> QueueOver<D, A> {
         wanted: Wanted,
         page: &Page,
     ) -> Result<(), DiskError>
-        requires inside { sector < (D.state self.old.under).sectors }
+        requires inside { sector < (D.state self.old.beneath).sectors }
         requires free { waiting_at self.old.entries.items sector ≡ None }
         requires credit { Covers 2 self.old.begun self.old.transfers self.old.no_sync
-            (D.state self.old.under).transfers (length self.old.entries.items) }
+            (D.state self.old.beneath).transfers (length self.old.entries.items) }
         ensures data { WritesData sector wanted page.now (state_of self.old) result
             (state_of self.new) }
         ensures takes { TakesIn sector wanted page.now (view_of self.old) result (view_of self.new) }
         ensures same { SameBut self.old self.new }
     {
         let mut scratch = [0; PAGE_BYTES];
-        let label = self.under.read(sector, &mut scratch)?;
+        let label = self.beneath.read(sector, &mut scratch)?;
         if !label.names(wanted) {
             return Err(DiskError::Wrong { found: label });
         }
@@ -83,16 +83,16 @@ impl<D: Disk, A: Allocator> QueueOver<D, A> {
     // Writes the first page of the sweep where there is no room for one more.
     fn make_room(&mut self) -> Result<(), DiskError>
         requires credit { Covers 1 self.old.begun self.old.transfers self.old.no_sync
-            (D.state self.old.under).transfers (length self.old.entries.items) }
+            (D.state self.old.beneath).transfers (length self.old.entries.items) }
         ensures room { OnOk result (length self.new.entries.items < self.new.room) }
         ensures credit { OnOk result (Covers 1 self.new.begun self.new.transfers self.new.no_sync
-            (D.state self.new.under).transfers (length self.new.entries.items)) }
+            (D.state self.new.beneath).transfers (length self.new.entries.items)) }
         ensures revealed { (state_of self.new).contents ≡ (state_of self.old).contents }
         ensures later { (state_of self.old).faults ≤ (state_of self.new).faults }
         ensures fails { FailsWith result (state_of self.old) (state_of self.new) }
-        ensures few { (D.state self.new.under).transfers ≤ (D.state self.old.under).transfers + 1 }
-        ensures made { MakesRoom (D.state self.old.under) self.old.entries.items
-            (D.state self.new.under) self.new.entries.items }
+        ensures few { (D.state self.new.beneath).transfers ≤ (D.state self.old.beneath).transfers + 1 }
+        ensures made { MakesRoom (D.state self.old.beneath) self.old.entries.items
+            (D.state self.new.beneath) self.new.entries.items }
         ensures takes { RoomMade (view_of self.old) result (view_of self.new) }
         ensures same { SameBut self.old self.new }
     {
@@ -104,13 +104,13 @@ impl<D: Disk, A: Allocator> QueueOver<D, A> {
 
     // Lets a page wait where there is room.
     fn put_in(&mut self, entry: Entry)
-        requires waits { Waits (D.state self.old.under) entry }
+        requires waits { Waits (D.state self.old.beneath) entry }
         requires free { waiting_at self.old.entries.items entry.sector ≡ None }
         requires room { length self.old.entries.items < self.old.room }
         requires credit { Covers 1 self.old.begun self.old.transfers self.old.no_sync
-            (D.state self.old.under).transfers (length self.old.entries.items) }
+            (D.state self.old.beneath).transfers (length self.old.entries.items) }
         ensures put { self.new.entries.items ≡ self.old.entries.items ++ entry ∷ [] }
-        ensures under { self.new.under ≡ self.old.under }
+        ensures beneath { self.new.beneath ≡ self.old.beneath }
         ensures head { self.new.head ≡ self.old.head }
         ensures own { self.new.own ≡ self.old.own }
         ensures changed { self.new.changed ≡ self.old.changed }

@@ -12,5 +12,5 @@ returns g c is =
     let done : is_err c.write_label-answer.result ≡ false = search rules in
     rw (c.into_disk-2.ensures.disk)
     (stands_settled (write.LabelOnly c.args.sector c.args.label.now) (g.D.Disk.state c.args.disk) (view_of c.in-Ok.queue) (view_of c.write_label-answer.new.self) (view_of c.sync-settled.new.self)
-    c.write_label-answer.result c.sync-settled.result (ap (λ (v : View). v.waiting) view) (ap (λ (v : View). v.under) view) c.write_label-answer.ensures.beneath done
+    c.write_label-answer.result c.sync-settled.result (ap (λ (v : View). v.waiting) view) (ap (λ (v : View). v.beneath) view) c.write_label-answer.ensures.beneath done
     c.sync-settled.ensures.beneath c.sync-settled.ensures.synced is)

@@ -9,7 +9,7 @@ pub invariant_of-self-2 : goal.invariant_of-self-2
 invariant_of-self-2 g c =
     let self = c.args.self.now in
     let left = c.empty.new.self in
-    let old = g.D.Disk.state left.under in
+    let old = g.D.Disk.state left.beneath in
     let new = g.D.Disk.state c.sync.new.self in
     let swept = c.in_ok-empty.ensures.swept in
     let long = sweeps_long self.head self.entries.items swept.swept left.entries.items swept.sweeps in

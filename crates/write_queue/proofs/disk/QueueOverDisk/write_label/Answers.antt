@@ -12,7 +12,7 @@ returns-clause-writes g c =
     let self = c.args.self.now in
     let left = c.empty.new.self in
     let moved : Moved self.transfers left.transfers = record { later = search rules; by_one = search rules } in
-    writes_swept (g.D.Disk.state self.under) (g.D.Disk.state left.under) (g.D.Disk.state c.write_label.new.self) self.entries.items left.entries.items self.transfers self.own left.transfers left.own
+    writes_swept (g.D.Disk.state self.beneath) (g.D.Disk.state left.beneath) (g.D.Disk.state c.write_label.new.self) self.entries.items left.entries.items self.transfers self.own left.transfers left.own
     (write.LabelOnly c.args.sector c.args.label.now) c.write_label.result c.in_ok-empty.ensures.swept.all.0 c.empty.ensures.revealed c.empty.ensures.swept.sectors c.empty.ensures.swept.lent moved c.empty.ensures.later c.write_label.ensures
 
 pub returns-in_err-empty-clause-beneath : goal.returns-in_err-empty-clause-beneath

@@ -10,8 +10,8 @@ returns-in_err-write_first-clause-swept g c =
     let old = c.args.self.now in
     let now = c.loop.self in
     let new = c.write_first.new.self in
-    rw same (part_swept old.head old.entries.items (g.D.Disk.state old.under) old.own now.entries.items now.head (g.D.Disk.state now.under) now.own
-    c.in_err-write_first.field-0.0 new.entries.items new.head (g.D.Disk.state new.under) c.loop.invariant.0 c.in_err-write_first.ensures.out)
+    rw same (part_swept old.head old.entries.items (g.D.Disk.state old.beneath) old.own now.entries.items now.head (g.D.Disk.state now.beneath) now.own
+    c.in_err-write_first.field-0.0 new.entries.items new.head (g.D.Disk.state new.beneath) c.loop.invariant.0 c.in_err-write_first.ensures.out)
 
 pub returns-in_err-write_first-clause-met : goal.returns-in_err-write_first-clause-met
 returns-in_err-write_first-clause-met g c =
@@ -25,8 +25,8 @@ loop-preserved g c =
     let new = c.write_first.new.self in
     let out = c.in_ok-write_first.ensures.out in
     let before = c.loop.invariant in (
-      so_far_more old.head old.entries.items (g.D.Disk.state old.under) old.own now.entries.items now.head (g.D.Disk.state now.under) now.own
-          new.entries.items new.head (g.D.Disk.state new.under) new.own before.0 out c.write_first.ensures.revealed c.write_first.ensures.later,
+      so_far_more old.head old.entries.items (g.D.Disk.state old.beneath) old.own now.entries.items now.head (g.D.Disk.state now.beneath) now.own
+          new.entries.items new.head (g.D.Disk.state new.beneath) new.own before.0 out c.write_first.ensures.revealed c.write_first.ensures.later,
       omega (arith, before.1, out.out.3),
       c.in_ok-write_first.ensures.credit,
       record {
@@ -41,7 +41,7 @@ loop-preserved g c =
 pub loop-init : goal.loop-init
 loop-init g c =
     let old = c.args.self.now in (
-      none_so_far old.head old.entries.items (g.D.Disk.state old.under) old.own,
+      none_so_far old.head old.entries.items (g.D.Disk.state old.beneath) old.own,
       omega (arith, c.len-end.ensures),
       c.requires.credit,
       record { room = refl; transfers = refl; begun = refl; no_sync = refl },

@@ -11,6 +11,6 @@ pub returns-clause-paid : goal.returns-clause-paid
 returns-clause-paid g c =
     let self = c.args.self.now in
     record {
-      moved = paid_for self.begun self.transfers self.no_sync (g.D.Disk.state self.under).transfers (length self.entries.items) (g.met.D.Disk.few_transfers self.under) self.paid;
+      moved = paid_for self.begun self.transfers self.no_sync (g.D.Disk.state self.beneath).transfers (length self.entries.items) (g.met.D.Disk.few_transfers self.beneath) self.paid;
       waiting = self.paid;
     }

@@ -23,7 +23,7 @@ form label page id number kind flags last long bytes = record {
 pub invariant_of-self : goal.invariant_of-self
 invariant_of-self g c =
     let self = c.args.self.now in
-    let old = g.D.Disk.state self.under in
+    let old = g.D.Disk.state self.beneath in
     let new = g.D.Disk.state c.read.new.self in
     record {
       waiting = are_kept old new self.entries.items c.read.ensures.moves.sectors (labels_same old new c.read.ensures.same) self.waiting;
@@ -43,12 +43,12 @@ invariant_of-self g c =
 pub returns-then-not-names-clause-data : goal.returns-then-not-names-clause-data
 returns-then-not-names-clause-data g c =
     let self = c.args.self.now in
-    data_other (g.D.Disk.state self.under) (g.D.Disk.state c.read.new.self) self.entries.items self.transfers self.own c.args.sector c.in_ok-label.label _ c.args.wanted c.args.page.now
+    data_other (g.D.Disk.state self.beneath) (g.D.Disk.state c.read.new.self) self.entries.items self.transfers self.own c.args.sector c.in_ok-label.label _ c.args.wanted c.args.page.now
     c.in_ok-label.ensures c.requires.free (sym c.names.ensures ∙ c.if-not-names.true)
 
 pub put_in-requires-clause-waits : goal.put_in-requires-clause-waits
 put_in-requires-clause-waits g c =
-    waits_read (g.D.Disk.state c.args.self.now.under) (g.D.Disk.state c.read.new.self) (g.D.Disk.state c.make_room.new.self.under) c.args.sector c.in_ok-label.label _ c.args.wanted c.args.page.now
+    waits_read (g.D.Disk.state c.args.self.now.beneath) (g.D.Disk.state c.read.new.self) (g.D.Disk.state c.make_room.new.self.beneath) c.args.sector c.in_ok-label.label _ c.args.wanted c.args.page.now
     c.in_ok-label.ensures c.requires.inside (sym c.names.ensures ∙ c.if-not-names.false)
     (form c.in_ok-label.label c.args.page.now (search rules) (search rules) (search rules) (search rules) (search rules) c.told-page c.fits-page)
     c.make_room.ensures.made.sectors c.make_room.ensures.made.labels
@@ -57,15 +57,15 @@ pub returns-clause-data : goal.returns-clause-data
 returns-clause-data g c =
     let self = c.args.self.now in
     let room = c.make_room.new.self in
-    let waits = waits_read (g.D.Disk.state self.under) (g.D.Disk.state c.read.new.self) (g.D.Disk.state room.under) c.args.sector c.in_ok-label.label _ c.args.wanted c.args.page.now
+    let waits = waits_read (g.D.Disk.state self.beneath) (g.D.Disk.state c.read.new.self) (g.D.Disk.state room.beneath) c.args.sector c.in_ok-label.label _ c.args.wanted c.args.page.now
     c.in_ok-label.ensures c.requires.inside (sym c.names.ensures ∙ c.if-not-names.false)
     (form c.in_ok-label.label c.args.page.now (search rules) (search rules) (search rules) (search rules) (search rules) c.told-page c.fits-page)
     c.make_room.ensures.made.sectors c.make_room.ensures.made.labels in
-    let taken = data_taken (g.D.Disk.state self.under) (g.D.Disk.state c.read.new.self) (g.D.Disk.state room.under) self.entries.items room.entries.items self.transfers self.own room.own
+    let taken = data_taken (g.D.Disk.state self.beneath) (g.D.Disk.state c.read.new.self) (g.D.Disk.state room.beneath) self.entries.items room.entries.items self.transfers self.own room.own
     c.args.sector c.in_ok-label.label _ c.args.wanted c.args.page.now c.in_ok-label.ensures c.make_room.ensures.revealed c.make_room.ensures.made c.make_room.ensures.later room.waiting.once
     c.requires.free waits in
     let transfers : c.put_in.new.self.transfers ≡ self.transfers = c.put_in.ensures.same.transfers ∙ c.make_room.ensures.same.transfers in
-    rw (c.put_in.ensures.put, c.put_in.ensures.under, c.put_in.ensures.own, transfers) taken
+    rw (c.put_in.ensures.put, c.put_in.ensures.beneath, c.put_in.ensures.own, transfers) taken
 
 pub returns-in_err-label-clause-takes : goal.returns-in_err-label-clause-takes
 returns-in_err-label-clause-takes g c =
@@ -87,6 +87,6 @@ pub returns-clause-takes : goal.returns-clause-takes
 returns-clause-takes g c =
     let self = c.args.self.now in
     let room = c.make_room.new.self in
-    rw (c.put_in.ensures.put, c.put_in.ensures.under, c.put_in.ensures.own, c.put_in.ensures.head, c.put_in.ensures.changed, c.put_in.ensures.same.room)
+    rw (c.put_in.ensures.put, c.put_in.ensures.beneath, c.put_in.ensures.own, c.put_in.ensures.head, c.put_in.ensures.changed, c.put_in.ensures.same.room)
     (takes_more (view_of self) (g.D.Disk.state c.read.new.self) (view_of room) _ c.requires.free c.read.ensures.same c.read.ensures.moves.transfers.by_one c.make_room.ensures.few
     c.in_ok-make_room.ensures.takes room.waiting.once (c.make_room.ensures.made.free c.args.sector c.requires.free))

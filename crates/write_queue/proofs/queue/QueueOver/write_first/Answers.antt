@@ -25,7 +25,7 @@ write_data-requires g c = (c.args.self.now.waiting.each c.first_place-place.resu
 pub invariant_of-self : goal.invariant_of-self
 invariant_of-self g c =
     let self = c.args.self.now in
-    let old = g.D.Disk.state self.under in
+    let old = g.D.Disk.state self.beneath in
     let new = g.D.Disk.state c.write_data.new.self in
     let es = self.entries.items in
     let e = c.index.result.now in
@@ -50,7 +50,7 @@ invariant_of-self g c =
 pub invariant_of-self-in-Err-Failed : goal.invariant_of-self-in-Err-Failed
 invariant_of-self-in-Err-Failed g c =
     let self = c.args.self.now in
-    let old = g.D.Disk.state self.under in
+    let old = g.D.Disk.state self.beneath in
     let new = g.D.Disk.state c.write_data.new.self in
     let es = self.entries.items in
     let e = c.index.result.now in
@@ -72,7 +72,7 @@ invariant_of-self-in-Err-Failed g c =
 pub invariant_of-self-in-Err-Wrong : goal.invariant_of-self-in-Err-Wrong
 invariant_of-self-in-Err-Wrong g c =
     let self = c.args.self.now in
-    let old = g.D.Disk.state self.under in
+    let old = g.D.Disk.state self.beneath in
     let new = g.D.Disk.state c.write_data.new.self in
     let es = self.entries.items in
     let e = c.index.result.now in
@@ -134,7 +134,7 @@ returns-in-Ok-clause-revealed g c =
     let es = self.entries.items in
     let e = c.index.result.now in
     let at = there es c.first_place-place.result e c.first_place-place.ensures.below c.index.ensures in
-    rw c.swap_remove.ensures.items (revealed_out (g.D.Disk.state self.under) (g.D.Disk.state c.write_data.new.self) es _ e
+    rw c.swap_remove.ensures.items (revealed_out (g.D.Disk.state self.beneath) (g.D.Disk.state c.write_data.new.self) es _ e
     (stands_waiting es self.waiting.once c.first_place-place.result e at e.sector refl)
     (less-fewer es c.first_place-place.result c.first_place-place.ensures.below c.swap_remove.result self.waiting.once e at)
     (self.waiting.each c.first_place-place.result e at) c.in-Ok.ensures.written)
@@ -146,7 +146,7 @@ returns-in-Err-Failed-clause-revealed g c =
     let e = c.index.result.now in
     let failed = rw c.in-Err-Failed.field-0-is at c.in-Err-Failed.ensures in
     let at = there es c.first_place-place.result e c.first_place-place.ensures.below c.index.ensures in
-    revealed_still (g.D.Disk.state self.under) (g.D.Disk.state c.write_data.new.self) es e
+    revealed_still (g.D.Disk.state self.beneath) (g.D.Disk.state c.write_data.new.self) es e
     (stands_waiting es self.waiting.once c.first_place-place.result e at e.sector refl) (made_or_not failed.whole_or_absent)
 
 pub returns-in-Err-Wrong-clause-revealed : goal.returns-in-Err-Wrong-clause-revealed

@@ -6,5 +6,5 @@ returns-clause-beneath g c =
     let self = c.args.self in
     let queue = self.queue in
     rw c.into_disk.ensures.disk
-    (lies_beneath (g.D.Disk.state queue.under) queue.entries.items queue.transfers queue.own queue.begun self.before queue.no_sync queue.changed queue.counted self.why self.once
+    (lies_beneath (g.D.Disk.state queue.beneath) queue.entries.items queue.transfers queue.own queue.begun self.before queue.no_sync queue.changed queue.counted self.why self.once
     c.moved_beneath-moved.ensures.paid.moved (λ is. let stands = c.into_disk.ensures.synced is in (stands.contents, stands.synced)))
