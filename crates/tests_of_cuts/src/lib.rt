@@ -1,7 +1,11 @@
-//! Tests of what stands on a disk where the power goes while a volume is made or restored.
+//! Tests of what stands on a disk where the power goes while a volume is made or restored, or in a run.
 #![tactic(auto)]
 
 #[cfg(test)]
 mod parts;
 #[cfg(test)]
 mod rows;
+#[cfg(test)]
+mod runs;
+#[cfg(test)]
+mod traces;

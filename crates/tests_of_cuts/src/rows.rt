@@ -1,6 +1,6 @@
 //! A volume with a file that is made anew, and one that is restored.
 
-use crate::parts::{Missing, SECTORS, cut};
+use crate::parts::{Cut, LAGS, SECTORS, There};
 use labelled_disk::{Disk, DiskWrite, LEADER, Label, MemoryDisk};
 use scavenger::{Report, scavenge};
 use std::alloc::{Allocator, Global};
@@ -9,14 +9,6 @@ use volume_root::{Root, RootFault, format, read_root, write_root};
 
 // The identifier of a file that the root's counter has not come to.
 const FILE: u64 = 0x7_0000_0009;
-
-// What may be missing of the last write before the power goes.
-const PARTS: [Missing; 4] = [
-    Missing::All,
-    Missing::Label,
-    Missing::Unit(0),
-    Missing::Unit(1),
-];
 
 // A volume with a file of one page, and a temporary one, as a run leaves it that was halted or closed.
 fn volume<A: Allocator + Clone>(alloc: A, clean: bool) -> Result<MemoryDisk<A>, Fail> {
@@ -49,12 +41,29 @@ fn syncs_of<A: Allocator>(disk: &MemoryDisk<A>) -> Option<(u64, u64, u64)> {
     Some((*first, *second, *third))
 }
 
+// A new disk with these writes, of which the one with this number is there so.
+fn cut<A: Allocator + Clone>(
+    alloc: A,
+    writes: &[DiskWrite],
+    number: usize,
+    there: There,
+) -> Result<MemoryDisk<A>, Fail> {
+    let cut = Cut {
+        settled: 0,
+        number,
+        there,
+        others: There::Whole,
+    };
+    let (disk, _) = cut.disk(alloc, writes)?;
+    Ok(disk)
+}
+
 // Whether no root is accepted, or that of serial 9.
 fn is_none_or_new(
     alloc: Global,
     writes: &[DiskWrite],
     at: usize,
-    part: Missing,
+    part: There,
 ) -> Result<bool, Fail> {
     let mut disk = cut(alloc, writes, at, part)?;
     Ok(read_root(&mut disk, false).map_or(true, |root| root.serial == 9))
@@ -74,7 +83,7 @@ fn an_old_root_is_gone_before_the_new_one(rt: HostRuntime) -> Result<(), Fail> {
         let Some(writes) = disk.written().get(..made as usize + 1) else {
             return Err(Fail::from("there were fewer writes"));
         };
-        for part in PARTS {
+        for part in LAGS {
             assert!(rt;
                 is_none_or_new(rt.alloc(), writes, writes.len() - 1, part)?,
                 "{made}"
@@ -127,12 +136,12 @@ fn a_volume_is_clean_once_it_is_restored(rt: HostRuntime) -> Result<(), Fail> {
         };
         assert_eq!(rt; third, disk.written().len() as u64);
         assert!(rt; first < second && third.checked_sub(second) == Some(1));
-        let mut end = cut(rt.alloc(), disk.written(), 0, Missing::Nothing)?;
+        let mut end = cut(rt.alloc(), disk.written(), 0, There::Whole)?;
         for made in first..third {
             let Some(writes) = disk.written().get(..made as usize + 1) else {
                 return Err(Fail::from("there were fewer writes"));
             };
-            for part in PARTS {
+            for part in LAGS {
                 let mut left = cut(rt.alloc(), writes, writes.len() - 1, part)?;
                 assert!(rt;
                     is_open_or_whole(rt.alloc(), &mut left, &mut end)?,
