@@ -95,8 +95,8 @@ impl<M: FlatMem> AllocMap<M> {
         ensures others { (b : List ℕ) → M.reveals (map_memory self.old) b
             → OnErr result (RevealsSomeTaken (M.reveals (map_memory self.new)) b
             (first_data self.old) (sector_count self.old)) }
-        ensures first { first_data self.new ≡ first_data self.old }
-        ensures sectors { sector_count self.new ≡ sector_count self.old }
+        ensures sectors { (first_data self.new ≡ first_data self.old)
+            × (sector_count self.new ≡ sector_count self.old) }
         ensures kept { M.beside (map_memory self.old) (map_memory self.new) }
         // two looks, and one read and one write a page
         ensures cost { M.spent (map_memory self.new)

@@ -55,7 +55,7 @@ module _ (with_temporary : Bool) where
       → disk_file with_temporary (crash_state d writes (suc j)) id ≡ Some g → p < size g
       → slice_get g.pages p ≡ Some zero_page
 
-  -- so does each permitted write, where files are whole at each moment
+  -- so does each permitted write, where files are whole in each crash state
   abbrev pub PagesAreAddedAsZeros : Type 0
   PagesAreAddedAsZeros = (d : List Sector) (writes : List DiskWrite) → ArePermitted d writes
       → ((j : ℕ) → j ≤ length writes → AreFilesWhole with_temporary (crash_state d writes j)) → (id : ℕ)

@@ -47,7 +47,7 @@ module _ {D A : Type 0} {G : Ghosts D} (form : (disk : D) (d : List Sector) → 
   held_settled : (h : Held D A G) (m : Machine) (d : List Sector) → IsIn h m → IfSome (disk_in h) (λ disk. disk.contents ≡ Some d) → RevealsSettled d m
   held_settled (held.Session live) m d stands revealed =
       settled_is_revealed d m (stands_is_settled (exactly stands.1.pages m.spaces) _ _ m d stands.1.session.stands revealed
-      (form live.session.core.filer.swapper.disk d revealed))
+      (form _ d revealed))
   held_settled other m d stands revealed = absurd stands
 
   -- the disk has the settled files of the machine that the engine stands for

@@ -31,3 +31,4 @@ pub mod Synced
 pub mod Stays
 pub mod Outcomes
 pub mod Costs
+pub mod NewPages

@@ -11,21 +11,21 @@ use swapper_kernel::Swapper;
 
 // Gives up the frames of these pages, with one look for each page.
 fn discard_pages<D: Disk, A: Allocator>(
-    swapper: &mut Swapper<D, A>,
+    memory: &mut Swapper<D, A>,
     id: FileId,
     first: u32,
     pages: u32,
 )
     requires of_file { (id ≡ 3) ⊎ (16 ≤ id) }
     requires fits { first + pages ≤ 2 ^ 32 }
-    ensures forgets { Forgets id first pages swapper.old.layout (D.state swapper.old.disk) swapper.old.pool
-        swapper.new.pool }
-    ensures disk { swapper.new.disk ≡ swapper.old.disk }
-    ensures layout { swapper.new.layout ≡ swapper.old.layout }
+    ensures forgets { Forgets id first pages memory.old.layout (D.state memory.old.disk) memory.old.pool
+        memory.new.pool }
+    ensures disk { memory.new.disk ≡ memory.old.disk }
+    ensures layout { memory.new.layout ≡ memory.old.layout }
 {
     for page in 0..pages {
-        if let Some(slot) = swapper.frames().find(id, first + page) {
-            swapper.clear(slot);
+        if let Some(slot) = memory.frames().find(id, first + page) {
+            memory.clear(slot);
         }
     }
 }

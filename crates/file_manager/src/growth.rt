@@ -16,6 +16,7 @@ ghost use Rattle.label_calls.specs.Runs.{AreOfFile, AreUncovered, HaveOnes, IsOn
 ghost use Rattle.label_calls.specs.Synced.{LabelsAfterSync};
 ghost use Rattle.filer_kernel.specs.Becomes.{Becomes};
 ghost use Rattle.filer_kernel.specs.Marks.{Marks, BitsAre, marked, IsFreeRun};
+ghost use Rattle.file_manager.specs.NewPages.{AreToMake};
 ghost use Rattle.file_manager.specs.Grounds.{RangeHalts, TakeHalts, MakesFor};
 ghost use Rattle.swapper_kernel.specs.Halts.{HasCause};
 ghost use Rattle.session_words.specs.Parts.{Shape, Shapes};
@@ -145,8 +146,7 @@ pub(crate) fn make_run<D: Disk, A: Allocator>(
     clears: bool,
 ) -> Result<Run, Halt>
     requires size { FitsLayout (view_of filer.old) }
-    requires pages { (1 ≤ most) × (page + most ≤ 2 ^ 32) }
-    requires of_file { AreOfFile id kind page most }
+    requires to_make { AreToMake id kind page most }
     ensures made { (tables : ℕ) (x : List Sector) (shapes : Shapes) (spaces : List Space)
         → BooksUpto tables (view_of filer.old).disk (view_of filer.old).slots (view_of filer.old).layout
         (view_of filer.old).runs shapes spaces x

@@ -29,8 +29,7 @@ pub fn find<T: SearchedEntries>(
     ensures same_count { (n : ℕ) → T.counts entries.old n → T.counts entries.new n }
     ensures same_sights { (sight : Sight) → T.shows entries.new sight → T.shows entries.old sight }
     ensures same_bytes { (b : List ℕ) → T.revealed entries.old b → T.revealed entries.new b }
-    ensures kept { T.beside entries.old entries.new }
-    ensures looked { T.only_reads entries.old entries.new }
+    ensures kept { T.beside entries.old entries.new × T.only_reads entries.old entries.new }
     ensures cause { IfErr result (IsCause sectors ⊥ (T.shows entries.old) (T.accounted entries.old entries.new)) }
     ensures cost { T.spent entries.new ≤ T.spent entries.old + T.look_cost }
 {

@@ -16,5 +16,6 @@ pub mod MapOnce
 pub mod NamedLaws
 pub mod TableOnce
 pub mod View
+pub mod Looks
 pub mod Fails
 pub mod FailsLaws

@@ -11,7 +11,7 @@ ghost use Rattle.swapper_kernel.specs.Homes.{AreNamed};
 ghost use Rattle.swapper_kernel.specs.Stands.{Stands};
 ghost use Rattle.swapper_kernel.specs.Window.{Reveals, Beside, Looked};
 ghost use Rattle.filer_kernel.specs.Cached.{runs_of};
-ghost use Rattle.filer_kernel.specs.Triples.{MapIs, AreOf, IsOneOf};
+ghost use Rattle.filer_kernel.specs.Triples.{MapIs, AreOf};
 ghost use Rattle.filer_kernel.specs.Causes.{MapShows, MapHalts, IsFaultOrMismatch, IsGiven};
 
 use crate::Filer;
@@ -22,6 +22,9 @@ use std::alloc::Allocator;
 use swapper_kernel::{Manager, MapMemory};
 
 impl<D: Disk, A: Allocator> Filer<D, A> {
+    ghost use Rattle.filer_kernel.specs.View.{view_of};
+    ghost use Rattle.filer_kernel.specs.Looks.{FailsToLook, KeepsRuns, LeavesMap};
+
     // The run of the map that has this page.
     fn search(&mut self, id: FileId, page: u32) -> Result<Option<Run>, Halt>
         requires size { (D.state self.old.swapper.disk).sectors ≡ self.old.swapper.layout.sectors }
@@ -37,25 +40,8 @@ impl<D: Disk, A: Allocator> Filer<D, A> {
             (at : ℕ)
             × MapShows self.old.swapper.layout (D.state self.old.swapper.disk) self.old.swapper.pool
             (Entry at (run_bytes run)))) }
-        ensures sound { (m : List Sector) (named : Triples)
-            → Stands (D.state self.old.swapper.disk) self.old.swapper.pool m → MapIs self.old.swapper.layout named m
-            → AreNamed m (IsMapHome FileMapPages self.old.swapper.layout) → IfErr result (λ e. e ≡ halt.Disk) }
-        ensures same { (m : List Sector) (named : Triples)
-            → Stands (D.state self.old.swapper.disk) self.old.swapper.pool m → MapIs self.old.swapper.layout named m
-            → Stands (D.state self.new.swapper.disk) self.new.swapper.pool m }
-        ensures same_bytes { (b : List ℕ)
-            → Reveals FileMapPages (D.state self.old.swapper.disk) self.old.swapper.pool self.old.swapper.layout b
-            → Reveals FileMapPages (D.state self.new.swapper.disk) self.new.swapper.pool self.old.swapper.layout b }
-        ensures right { (m : List Sector) (named : Triples)
-            → Stands (D.state self.old.swapper.disk) self.old.swapper.pool m → MapIs self.old.swapper.layout named m
-            → IfErr result IsFaultOrMismatch }
-        ensures cause { IfErr result
-            (MapHalts self.old.swapper.layout (D.state self.old.swapper.disk) self.old.swapper.pool
-            (D.state self.new.swapper.disk)) }
-        ensures beside { Beside FileMapPages (D.state self.old.swapper.disk) self.old.swapper.pool
-            self.old.swapper.layout (D.state self.new.swapper.disk) self.new.swapper.pool self.new.swapper.layout }
-        ensures looked { Looked FileMapPages (D.state self.old.swapper.disk) self.old.swapper.pool
-            self.old.swapper.layout (D.state self.new.swapper.disk) self.new.swapper.pool self.new.swapper.layout }
+        ensures fails { FailsToLook (view_of self.old) (view_of self.new) result }
+        ensures leaves { LeavesMap (view_of self.old) (view_of self.new) }
         ensures runs { self.new.runs ≡ self.old.runs }
         ensures cost { (D.state self.new.swapper.disk).transfers ≤ (D.state self.old.swapper.disk).transfers + 14 }
     {
@@ -86,37 +72,12 @@ impl<D: Disk, A: Allocator> Filer<D, A> {
             (λ run.
             IsGiven self.old.swapper.layout (D.state self.old.swapper.disk) self.old.swapper.pool
             (runs_of self.old.swapper.layout.sectors self.old.runs) run)) }
-        ensures is_kept { IfOk result
-            (λ found. IfSome found (λ run. IsOneOf run (runs_of self.old.swapper.layout.sectors self.new.runs))) }
-        ensures runs_given { (r : Run) → IsOneOf r (runs_of self.old.swapper.layout.sectors self.new.runs)
-            → IsGiven self.old.swapper.layout (D.state self.old.swapper.disk) self.old.swapper.pool
-            (runs_of self.old.swapper.layout.sectors self.old.runs) r }
-        ensures runs_are { (m : List Sector) (named : Triples)
-            → Stands (D.state self.old.swapper.disk) self.old.swapper.pool m → MapIs self.old.swapper.layout named m
-            → AreOf named (runs_of self.old.swapper.layout.sectors self.old.runs)
-            → AreOf named (runs_of self.old.swapper.layout.sectors self.new.runs) }
+        ensures keeps { KeepsRuns (view_of self.old) (view_of self.new) result }
         ensures idle { (r : Run)
             → find (λ r. holds r id page) (runs_of self.old.swapper.layout.sectors self.old.runs) ≡ Some r
             → (result ≡ Ok (Some r)) × (self.new.swapper ≡ self.old.swapper) × (self.new.runs ≡ self.old.runs) }
-        ensures sound { (m : List Sector) (named : Triples)
-            → Stands (D.state self.old.swapper.disk) self.old.swapper.pool m → MapIs self.old.swapper.layout named m
-            → AreNamed m (IsMapHome FileMapPages self.old.swapper.layout) → IfErr result (λ e. e ≡ halt.Disk) }
-        ensures same { (m : List Sector) (named : Triples)
-            → Stands (D.state self.old.swapper.disk) self.old.swapper.pool m → MapIs self.old.swapper.layout named m
-            → Stands (D.state self.new.swapper.disk) self.new.swapper.pool m }
-        ensures same_bytes { (b : List ℕ)
-            → Reveals FileMapPages (D.state self.old.swapper.disk) self.old.swapper.pool self.old.swapper.layout b
-            → Reveals FileMapPages (D.state self.new.swapper.disk) self.new.swapper.pool self.old.swapper.layout b }
-        ensures right { (m : List Sector) (named : Triples)
-            → Stands (D.state self.old.swapper.disk) self.old.swapper.pool m → MapIs self.old.swapper.layout named m
-            → IfErr result IsFaultOrMismatch }
-        ensures cause { IfErr result
-            (MapHalts self.old.swapper.layout (D.state self.old.swapper.disk) self.old.swapper.pool
-            (D.state self.new.swapper.disk)) }
-        ensures beside { Beside FileMapPages (D.state self.old.swapper.disk) self.old.swapper.pool
-            self.old.swapper.layout (D.state self.new.swapper.disk) self.new.swapper.pool self.new.swapper.layout }
-        ensures looked { Looked FileMapPages (D.state self.old.swapper.disk) self.old.swapper.pool
-            self.old.swapper.layout (D.state self.new.swapper.disk) self.new.swapper.pool self.new.swapper.layout }
+        ensures fails { FailsToLook (view_of self.old) (view_of self.new) result }
+        ensures leaves { LeavesMap (view_of self.old) (view_of self.new) }
         ensures cost { (D.state self.new.swapper.disk).transfers ≤ (D.state self.old.swapper.disk).transfers + 14 }
     {
         let sectors = self.swapper.layout().sectors;

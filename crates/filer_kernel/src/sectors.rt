@@ -34,6 +34,9 @@ fn free_after(answer: &Result<(u32, u32), AllocError<Halt>>, before: u32, sector
 }
 
 impl<D: Disk, A: Allocator> Filer<D, A> {
+    ghost use Rattle.filer_kernel.specs.View.{view_of};
+    ghost use Rattle.filer_kernel.specs.Looks.{FailsToTake};
+
     /// How many data sectors are free.
     pub fn free_count(&mut self) -> Result<u32, Halt>
         requires size { (D.state self.old.swapper.disk).sectors ≡ self.old.swapper.layout.sectors }
@@ -92,16 +95,11 @@ impl<D: Disk, A: Allocator> Filer<D, A> {
             → Stands (D.state self.old.swapper.disk) self.old.swapper.pool m → BitsAre self.old.swapper.layout marks m
             → result ≡ Err AllocError.NoRoom
             → AreAll true marks self.old.swapper.layout.first self.old.swapper.layout.sectors }
-        ensures sound { (m : List Sector) → Stands (D.state self.old.swapper.disk) self.old.swapper.pool m
-            → AreNamed m (IsMapHome AllocationMap self.old.swapper.layout) → IfErr result (IfMem (λ e. e ≡ halt.Disk)) }
+        ensures fails { FailsToTake (view_of self.old) (view_of self.new) result }
         ensures same { (m : List Sector) (marks : Marks)
             → Stands (D.state self.old.swapper.disk) self.old.swapper.pool m → BitsAre self.old.swapper.layout marks m
             → result ≡ Err AllocError.NoRoom → Stands (D.state self.new.swapper.disk) self.new.swapper.pool m }
         ensures form { IfOk result (IsDataRun self.old.swapper.layout.first self.old.swapper.layout.sectors most) }
-        ensures cause { IfErr result
-            (IfMem
-            (Halts (IsMapHome AllocationMap self.old.swapper.layout) (D.state self.old.swapper.disk)
-            self.old.swapper.pool (D.state self.new.swapper.disk))) }
         ensures kept { Beside AllocationMap (D.state self.old.swapper.disk) self.old.swapper.pool
             self.old.swapper.layout (D.state self.new.swapper.disk) self.new.swapper.pool self.new.swapper.layout }
         ensures runs { self.new.runs ≡ self.old.runs }

@@ -1,16 +1,14 @@
 //! The pages of the space tables, found through the file map and brought into frames.
-ghost use Rattle.std.specs.Prelude.{◌≡◌, ℕ, ◌+◌, ◌*◌, ◌<◌, ◌≤◌, find, List, length, IfOk, IfErr, IsOk, Some};
+ghost use Rattle.std.specs.Prelude.{◌≡◌, ℕ, ◌+◌, ◌*◌, ◌<◌, ◌≤◌, find, List, length, IfOk, IsOk, Some};
 ghost use Rattle.labelled_disk.specs.Sectors.{Sector};
 ghost use Rattle.flat_mem.specs.Memory.{part};
 ghost use Rattle.frame_pool.specs.Frames.{ArePages, Frame, Has, HasPage};
 ghost use Rattle.file_map.specs.declared.run.Run.{Run};
 ghost use Rattle.file_map.specs.Run.{holds};
-ghost use Rattle.swapper_kernel.specs.declared.manager.Manager.TheVariants.{FileMap as FileMapPages};
 ghost use Rattle.swapper_kernel.specs.Homes.{IsNamed};
 ghost use Rattle.swapper_kernel.specs.Stands.{Stands};
-ghost use Rattle.swapper_kernel.specs.Window.{Reveals};
 ghost use Rattle.filer_kernel.specs.Cached.{runs_of};
-ghost use Rattle.filer_kernel.specs.Tables.{BesideTables, IfMissing, IsFoundHome, IsTableAccounted, LookedTables, TablesReveal};
+ghost use Rattle.filer_kernel.specs.Tables.{IsFoundHome, TablesReveal};
 
 use crate::Filer;
 use frame_pool::Home;
@@ -18,6 +16,9 @@ use labelled_disk::{Disk, Evidence, Halt, TABLES};
 use std::alloc::Allocator;
 
 impl<D: Disk, A: Allocator> Filer<D, A> {
+    ghost use Rattle.filer_kernel.specs.View.{view_of};
+    ghost use Rattle.filer_kernel.specs.Looks.{LooksForPage};
+
     // Where the map says that a page of the space tables stands.
     fn table_home(&mut self, page: u32) -> Result<Home, Halt>
         requires size { (D.state self.old.swapper.disk).sectors ≡ self.old.swapper.layout.sectors }
@@ -34,21 +35,7 @@ impl<D: Disk, A: Allocator> Filer<D, A> {
             → IfOk result (IsNamed m) }
         ensures stays { (m : List Sector) → Stands (D.state self.old.swapper.disk) self.old.swapper.pool m
             → Stands (D.state self.new.swapper.disk) self.new.swapper.pool m }
-        ensures same { (b : List ℕ)
-            → TablesReveal (D.state self.old.swapper.disk) self.old.swapper.pool self.old.swapper.layout self.old.runs b
-            → TablesReveal (D.state self.new.swapper.disk) self.new.swapper.pool self.new.swapper.layout self.new.runs
-            b }
-        ensures error { IfErr result
-            (IsTableAccounted (D.state self.old.swapper.disk) self.old.swapper.pool self.old.swapper.layout
-            self.old.runs (D.state self.new.swapper.disk)) }
-        ensures missing { IfErr result (IfMissing page) }
-        ensures kept { BesideTables (D.state self.old.swapper.disk) self.old.swapper.pool self.old.swapper.layout
-            self.old.runs (D.state self.new.swapper.disk) self.new.swapper.pool self.new.swapper.layout self.new.runs }
-        ensures looked { LookedTables (D.state self.old.swapper.disk) self.old.swapper.pool self.old.swapper.layout
-            self.old.runs (D.state self.new.swapper.disk) self.new.swapper.pool self.new.swapper.layout self.new.runs }
-        ensures same_bytes { (b : List ℕ)
-            → Reveals FileMapPages (D.state self.old.swapper.disk) self.old.swapper.pool self.old.swapper.layout b
-            → Reveals FileMapPages (D.state self.new.swapper.disk) self.new.swapper.pool self.old.swapper.layout b }
+        ensures looks { LooksForPage page (view_of self.old) (view_of self.new) result }
         ensures idle { (r : Run)
             → find (λ r. holds r 3 page) (runs_of self.old.swapper.layout.sectors self.old.runs) ≡ Some r
             → self.new.swapper ≡ self.old.swapper }
@@ -75,23 +62,9 @@ impl<D: Disk, A: Allocator> Filer<D, A> {
         ensures shown { (b : List ℕ)
             → TablesReveal (D.state self.old.swapper.disk) self.old.swapper.pool self.old.swapper.layout self.old.runs b
             → IfOk result (λ i. (f : Frame) × Has self.new.swapper.pool i f × (f.bytes ≡ part b (512 * page) 512)) }
-        ensures same { (b : List ℕ)
-            → TablesReveal (D.state self.old.swapper.disk) self.old.swapper.pool self.old.swapper.layout self.old.runs b
-            → TablesReveal (D.state self.new.swapper.disk) self.new.swapper.pool self.new.swapper.layout self.new.runs
-            b }
-        ensures error { IfErr result
-            (IsTableAccounted (D.state self.old.swapper.disk) self.old.swapper.pool self.old.swapper.layout
-            self.old.runs (D.state self.new.swapper.disk)) }
-        ensures missing { IfErr result (IfMissing page) }
-        ensures kept { BesideTables (D.state self.old.swapper.disk) self.old.swapper.pool self.old.swapper.layout
-            self.old.runs (D.state self.new.swapper.disk) self.new.swapper.pool self.new.swapper.layout self.new.runs }
-        ensures looked { LookedTables (D.state self.old.swapper.disk) self.old.swapper.pool self.old.swapper.layout
-            self.old.runs (D.state self.new.swapper.disk) self.new.swapper.pool self.new.swapper.layout self.new.runs }
+        ensures looks { LooksForPage page (view_of self.old) (view_of self.new) result }
         ensures idle { (i : ℕ) → HasPage self.old.swapper.pool i 3 page
             → IsOk result × (self.new.swapper ≡ self.old.swapper) × (self.new.runs ≡ self.old.runs) }
-        ensures same_bytes { (b : List ℕ)
-            → Reveals FileMapPages (D.state self.old.swapper.disk) self.old.swapper.pool self.old.swapper.layout b
-            → Reveals FileMapPages (D.state self.new.swapper.disk) self.new.swapper.pool self.old.swapper.layout b }
         ensures cost { (D.state self.new.swapper.disk).transfers ≤ (D.state self.old.swapper.disk).transfers + 16 }
         // where a run that is kept has the page, no search is made: the page alone moves, and a page that yields to it
         ensures warm { (r : Run)

@@ -19,89 +19,89 @@ use swapper_kernel::Swapper;
 
 /// Writes out each dirty frame of these pages of a file. The frames stay.
 pub fn flush<D: Disk, A: Allocator>(
-    swapper: &mut Swapper<D, A>,
+    memory: &mut Swapper<D, A>,
     id: FileId,
     first: u32,
     pages: u32,
 ) -> Result<(), Halt>
-    requires size { (D.state swapper.old.disk).sectors ≡ swapper.old.layout.sectors }
+    requires size { (D.state memory.old.disk).sectors ≡ memory.old.layout.sectors }
     ensures clean { OnOk result
-        ((i : ℕ) (f : Frame) → Has swapper.new.pool i f → IsWithin id first pages f.home → f.dirty ≡ false) }
-    ensures stay { Stay swapper.old.pool swapper.new.pool }
-    ensures run { OnlyRun id first pages swapper.old.pool swapper.new.pool }
-    ensures sound { (m : List Sector) → Stands (D.state swapper.old.disk) swapper.old.pool m
+        ((i : ℕ) (f : Frame) → Has memory.new.pool i f → IsWithin id first pages f.home → f.dirty ≡ false) }
+    ensures stay { Stay memory.old.pool memory.new.pool }
+    ensures run { OnlyRun id first pages memory.old.pool memory.new.pool }
+    ensures sound { (m : List Sector) → Stands (D.state memory.old.disk) memory.old.pool m
         → IfErr result (λ e. e ≡ halt.Disk) }
     ensures cause { IfErr result
-        (Halts no_home (D.state swapper.old.disk) swapper.old.pool (D.state swapper.new.disk)) }
-    ensures swaps { Swaps (D.state swapper.old.disk) swapper.old.pool (D.state swapper.new.disk) swapper.new.pool }
-    ensures steps { Steps no_home no_home (D.state swapper.old.disk) swapper.old.pool (D.state swapper.new.disk)
-        swapper.new.pool }
-    ensures layout { swapper.new.layout ≡ swapper.old.layout }
-    ensures cost { (D.state swapper.new.disk).transfers ≤ (D.state swapper.old.disk).transfers + dirty_count id first
-        pages swapper.old.pool }
+        (Halts no_home (D.state memory.old.disk) memory.old.pool (D.state memory.new.disk)) }
+    ensures swaps { Swaps (D.state memory.old.disk) memory.old.pool (D.state memory.new.disk) memory.new.pool }
+    ensures steps { Steps no_home no_home (D.state memory.old.disk) memory.old.pool (D.state memory.new.disk)
+        memory.new.pool }
+    ensures layout { memory.new.layout ≡ memory.old.layout }
+    ensures cost { (D.state memory.new.disk).transfers ≤ (D.state memory.old.disk).transfers + dirty_count id first
+        pages memory.old.pool }
 {
     let run = Run { id, first, pages };
-    if run.is_long(swapper.frames().frames()) {
-        write_marked(swapper, &run)
+    if run.is_long(memory.frames().frames()) {
+        write_marked(memory, &run)
     } else {
-        write_each(swapper, &run)
+        write_each(memory, &run)
     }
 }
 
 /// Gives up each frame of these pages of a file. What is dirty is written out first.
 pub fn evict<D: Disk, A: Allocator>(
-    swapper: &mut Swapper<D, A>,
+    memory: &mut Swapper<D, A>,
     id: FileId,
     first: u32,
     pages: u32,
 ) -> Result<(), Halt>
-    requires size { (D.state swapper.old.disk).sectors ≡ swapper.old.layout.sectors }
-    ensures gone { OnOk result ((i : ℕ) (f : Frame) → Has swapper.new.pool i f → IsWithin id first pages f.home → ⊥) }
-    ensures run { OnlyRun id first pages swapper.old.pool swapper.new.pool }
-    ensures sound { (m : List Sector) → Stands (D.state swapper.old.disk) swapper.old.pool m
+    requires size { (D.state memory.old.disk).sectors ≡ memory.old.layout.sectors }
+    ensures gone { OnOk result ((i : ℕ) (f : Frame) → Has memory.new.pool i f → IsWithin id first pages f.home → ⊥) }
+    ensures run { OnlyRun id first pages memory.old.pool memory.new.pool }
+    ensures sound { (m : List Sector) → Stands (D.state memory.old.disk) memory.old.pool m
         → IfErr result (λ e. e ≡ halt.Disk) }
     ensures cause { IfErr result
-        (Halts no_home (D.state swapper.old.disk) swapper.old.pool (D.state swapper.new.disk)) }
-    ensures swaps { Swaps (D.state swapper.old.disk) swapper.old.pool (D.state swapper.new.disk) swapper.new.pool }
+        (Halts no_home (D.state memory.old.disk) memory.old.pool (D.state memory.new.disk)) }
+    ensures swaps { Swaps (D.state memory.old.disk) memory.old.pool (D.state memory.new.disk) memory.new.pool }
     ensures written { OnOk result
-        (Evicts id first pages (D.state swapper.old.disk) swapper.old.pool (D.state swapper.new.disk)
-        swapper.new.pool) }
-    ensures stay { OnErr result (Stay swapper.old.pool swapper.new.pool) }
+        (Evicts id first pages (D.state memory.old.disk) memory.old.pool (D.state memory.new.disk)
+        memory.new.pool) }
+    ensures stay { OnErr result (Stay memory.old.pool memory.new.pool) }
     ensures steps { OnErr result
-        (Steps no_home no_home (D.state swapper.old.disk) swapper.old.pool (D.state swapper.new.disk)
-        swapper.new.pool) }
-    ensures layout { swapper.new.layout ≡ swapper.old.layout }
-    ensures cost { (D.state swapper.new.disk).transfers ≤ (D.state swapper.old.disk).transfers + dirty_count id first
-        pages swapper.old.pool }
+        (Steps no_home no_home (D.state memory.old.disk) memory.old.pool (D.state memory.new.disk)
+        memory.new.pool) }
+    ensures layout { memory.new.layout ≡ memory.old.layout }
+    ensures cost { (D.state memory.new.disk).transfers ≤ (D.state memory.old.disk).transfers + dirty_count id first
+        pages memory.old.pool }
 {
-    flush(swapper, id, first, pages)?;
-    discard(swapper, id, first, pages);
+    flush(memory, id, first, pages)?;
+    discard(memory, id, first, pages);
     Ok(())
 }
 
 /// Gives up each frame of these pages of a file, dirty or not, without a transfer. The pages are what the disk has.
 pub fn discard<D: Disk, A: Allocator>(
-    swapper: &mut Swapper<D, A>,
+    memory: &mut Swapper<D, A>,
     id: FileId,
     first: u32,
     pages: u32,
 )
-    ensures gone { (i : ℕ) (f : Frame) → Has swapper.new.pool i f → IsWithin id first pages f.home → ⊥ }
-    ensures run { OnlyRun id first pages swapper.old.pool swapper.new.pool }
-    ensures left { (i : ℕ) (f : Frame) → Has swapper.new.pool i f → Has swapper.old.pool i f }
-    ensures swaps { ((i : ℕ) (f : Frame) → Has swapper.old.pool i f → IsWithin id first pages f.home → f.dirty ≡ false)
-        → Swaps (D.state swapper.old.disk) swapper.old.pool (D.state swapper.new.disk) swapper.new.pool }
-    ensures goes { Goes (Differs (of_run id first pages)) no_page [] (D.state swapper.old.disk) swapper.old.pool
-        (D.state swapper.new.disk) swapper.new.pool }
-    ensures disk { swapper.new.disk ≡ swapper.old.disk }
-    ensures layout { swapper.new.layout ≡ swapper.old.layout }
+    ensures gone { (i : ℕ) (f : Frame) → Has memory.new.pool i f → IsWithin id first pages f.home → ⊥ }
+    ensures run { OnlyRun id first pages memory.old.pool memory.new.pool }
+    ensures left { (i : ℕ) (f : Frame) → Has memory.new.pool i f → Has memory.old.pool i f }
+    ensures swaps { ((i : ℕ) (f : Frame) → Has memory.old.pool i f → IsWithin id first pages f.home → f.dirty ≡ false)
+        → Swaps (D.state memory.old.disk) memory.old.pool (D.state memory.new.disk) memory.new.pool }
+    ensures goes { Goes (Differs (of_run id first pages)) no_page [] (D.state memory.old.disk) memory.old.pool
+        (D.state memory.new.disk) memory.new.pool }
+    ensures disk { memory.new.disk ≡ memory.old.disk }
+    ensures layout { memory.new.layout ≡ memory.old.layout }
 {
     let run = Run { id, first, pages };
-    let slots = swapper.frames().frames();
+    let slots = memory.frames().frames();
     let by_page = run.is_short(slots);
     for look in 0..run.looks(by_page, slots) {
-        if let Some((slot, _dirty)) = run.held_at(swapper.frames(), by_page, look) {
-            swapper.clear(slot);
+        if let Some((slot, _dirty)) = run.held_at(memory.frames(), by_page, look) {
+            memory.clear(slot);
         }
     }
 }

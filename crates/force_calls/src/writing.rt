@@ -16,25 +16,25 @@ use swapper_kernel::Swapper;
 
 /// Looks at each page of the run, or at each slot, whichever are fewer.
 pub(crate) fn write_each<D: Disk, A: Allocator>(
-    swapper: &mut Swapper<D, A>,
+    memory: &mut Swapper<D, A>,
     run: &Run,
 ) -> Result<(), Halt>
-    requires size { (D.state swapper.old.disk).sectors ≡ swapper.old.layout.sectors }
-    ensures clean { OnOk result ((i : ℕ) (f : Frame) → Has swapper.new.pool i f
+    requires size { (D.state memory.old.disk).sectors ≡ memory.old.layout.sectors }
+    ensures clean { OnOk result ((i : ℕ) (f : Frame) → Has memory.new.pool i f
         → IsWithin run.now.id run.now.first run.now.pages f.home → f.dirty ≡ false) }
-    ensures forces { Forces run.now.id run.now.first run.now.pages (D.state swapper.old.disk) swapper.old.pool
-        (D.state swapper.new.disk) swapper.new.pool }
-    ensures sound { (m : List Sector) → Stands (D.state swapper.old.disk) swapper.old.pool m
+    ensures forces { Forces run.now.id run.now.first run.now.pages (D.state memory.old.disk) memory.old.pool
+        (D.state memory.new.disk) memory.new.pool }
+    ensures sound { (m : List Sector) → Stands (D.state memory.old.disk) memory.old.pool m
         → IfErr result (λ e. e ≡ halt.Disk) }
     ensures cause { IfErr result
-        (Halts no_home (D.state swapper.old.disk) swapper.old.pool (D.state swapper.new.disk)) }
-    ensures layout { swapper.new.layout ≡ swapper.old.layout }
+        (Halts no_home (D.state memory.old.disk) memory.old.pool (D.state memory.new.disk)) }
+    ensures layout { memory.new.layout ≡ memory.old.layout }
 {
-    let slots = swapper.frames().frames();
+    let slots = memory.frames().frames();
     let by_page = run.is_short(slots);
     for look in 0..run.looks(by_page, slots) {
-        if let Some(slot) = run.dirty_found(swapper.frames(), by_page, look) {
-            swapper.write_out(slot)?;
+        if let Some(slot) = run.dirty_found(memory.frames(), by_page, look) {
+            memory.write_out(slot)?;
         }
     }
     Ok(())
@@ -42,28 +42,28 @@ pub(crate) fn write_each<D: Disk, A: Allocator>(
 
 /// Marks the pages of the run that are dirty, and looks at these alone.
 pub(crate) fn write_marked<D: Disk, A: Allocator>(
-    swapper: &mut Swapper<D, A>,
+    memory: &mut Swapper<D, A>,
     run: &Run,
 ) -> Result<(), Halt>
-    requires size { (D.state swapper.old.disk).sectors ≡ swapper.old.layout.sectors }
+    requires size { (D.state memory.old.disk).sectors ≡ memory.old.layout.sectors }
     requires fits { run.now.first + run.now.pages < 2 ^ 32 }
     requires few { run.now.pages ≤ 4096 }
-    ensures clean { OnOk result ((i : ℕ) (f : Frame) → Has swapper.new.pool i f
+    ensures clean { OnOk result ((i : ℕ) (f : Frame) → Has memory.new.pool i f
         → IsWithin run.now.id run.now.first run.now.pages f.home → f.dirty ≡ false) }
-    ensures forces { Forces run.now.id run.now.first run.now.pages (D.state swapper.old.disk) swapper.old.pool
-        (D.state swapper.new.disk) swapper.new.pool }
-    ensures sound { (m : List Sector) → Stands (D.state swapper.old.disk) swapper.old.pool m
+    ensures forces { Forces run.now.id run.now.first run.now.pages (D.state memory.old.disk) memory.old.pool
+        (D.state memory.new.disk) memory.new.pool }
+    ensures sound { (m : List Sector) → Stands (D.state memory.old.disk) memory.old.pool m
         → IfErr result (λ e. e ≡ halt.Disk) }
     ensures cause { IfErr result
-        (Halts no_home (D.state swapper.old.disk) swapper.old.pool (D.state swapper.new.disk)) }
-    ensures layout { swapper.new.layout ≡ swapper.old.layout }
+        (Halts no_home (D.state memory.old.disk) memory.old.pool (D.state memory.new.disk)) }
+    ensures layout { memory.new.layout ≡ memory.old.layout }
 {
     let mut marks = Marks::none();
-    marks.mark(swapper.frames(), run);
+    marks.mark(memory.frames(), run);
     for place in 0..run.pages {
         if marks.has(place) {
-            if let Some(slot) = run.dirty_found(swapper.frames(), true, place) {
-                swapper.write_out(slot)?;
+            if let Some(slot) = run.dirty_found(memory.frames(), true, place) {
+                memory.write_out(slot)?;
             }
         }
     }

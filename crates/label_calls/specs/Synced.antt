@@ -51,13 +51,13 @@ SyncedThere old new = (earlier : List DiskWrite) (before syncs : List ℕ) → o
     → new.syncs ≡ Some syncs → Contains syncs (length earlier)
 
 -- Each label among these writes, made from this state on after n others, comes after a sync that was made since, or an earlier one with
--- nothing written since; where the contents are told, over what had been cleared by then.
+-- nothing written since; where the contents are revealed, over what had been cleared by then.
 abbrev pub AreAfterSync : DiskState → List ℕ → ℕ → List DiskWrite → Type 0
 AreAfterSync old syncs n writes = (k : ℕ) (w : DiskWrite) → slice_get writes k ≡ Some w → is_page_write w ≡ false
     → (s : ℕ) × (s ≤ k) × Contains syncs (n + s) × ((d : List Sector) → old.contents ≡ Some d → IsAfterClearing d writes s k w)
 
 -- Each label that was written between the two states comes after a sync that was made between them, or an earlier one with nothing
--- written since; where the contents are told, a fresh one over a sector that had been cleared by then, one without a page after no fresh
+-- written since; where the contents are revealed, a fresh one over a sector that had been cleared by then, one without a page after no fresh
 -- one. So once one is written all that was written before the first of the two is on the medium. So are the zeros under a fresh one,
 -- where the free label of its sector was plain (identifier 0, page 0, flags below 4, last byte 0); under another free label the page may
 -- be anything.

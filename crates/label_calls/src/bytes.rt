@@ -12,24 +12,24 @@ use swapper_kernel::Swapper;
 
 /// The bytes of a page, from the sector whose label names it. After an error `into` may have any bytes.
 pub fn read_page<D: Disk, A: Allocator>(
-    swapper: &mut Swapper<D, A>,
+    memory: &mut Swapper<D, A>,
     sector: u32,
     wanted: Wanted,
     into: &mut Page,
 ) -> Result<(), Halt>
-    requires { sector < (D.state swapper.old.disk).sectors }
-    ensures read { OnOk result (ReadsPage sector wanted into.new (D.state swapper.old.disk) swapper.old.pool) }
-    ensures same { RevealsSame (D.state swapper.old.disk) (D.state swapper.new.disk) }
-    ensures moves { Moves (D.state swapper.old.disk) (D.state swapper.new.disk) }
-    ensures makes { Makes no_page [] (D.state swapper.old.disk) swapper.old.pool (D.state swapper.new.disk)
-        swapper.new.pool }
+    requires { sector < (D.state memory.old.disk).sectors }
+    ensures read { OnOk result (ReadsPage sector wanted into.new (D.state memory.old.disk) memory.old.pool) }
+    ensures same { RevealsSame (D.state memory.old.disk) (D.state memory.new.disk) }
+    ensures moves { Moves (D.state memory.old.disk) (D.state memory.new.disk) }
+    ensures makes { Makes no_page [] (D.state memory.old.disk) memory.old.pool (D.state memory.new.disk)
+        memory.new.pool }
     ensures fails { IfErr result
-        (FailsBy (λ m. HasOne (ones_of wanted) m sector) (IsNotOf sector wanted) (D.state swapper.old.disk)
-        swapper.old.pool (D.state swapper.new.disk)) }
-    ensures frames { swapper.new.pool ≡ swapper.old.pool }
-    ensures layout { swapper.new.layout ≡ swapper.old.layout }
+        (FailsBy (λ m. HasOne (ones_of wanted) m sector) (IsNotOf sector wanted) (D.state memory.old.disk)
+        memory.old.pool (D.state memory.new.disk)) }
+    ensures frames { memory.new.pool ≡ memory.old.pool }
+    ensures layout { memory.new.layout ≡ memory.old.layout }
 {
-    let disk = swapper.disk_over();
+    let disk = memory.disk_over();
     let found = match disk.read(sector, into) {
         Ok(found) => found,
         Err(_) => return Err(Halt::Disk),
@@ -46,25 +46,25 @@ pub fn read_page<D: Disk, A: Allocator>(
 
 /// Puts these bytes into the sector whose label names the page, and keeps the label.
 pub fn write_page<D: Disk, A: Allocator>(
-    swapper: &mut Swapper<D, A>,
+    memory: &mut Swapper<D, A>,
     sector: u32,
     wanted: Wanted,
     bytes: &Page,
 ) -> Result<(), Halt>
-    requires inside { sector < (D.state swapper.old.disk).sectors }
+    requires inside { sector < (D.state memory.old.disk).sectors }
     requires not_root { 0 < sector }
     ensures written { OnOk result
-        (WritesPage sector wanted bytes.now (D.state swapper.old.disk) swapper.old.pool (D.state swapper.new.disk)) }
+        (WritesPage sector wanted bytes.now (D.state memory.old.disk) memory.old.pool (D.state memory.new.disk)) }
     ensures stopped { OnErr result
-        (MayWritePage sector wanted bytes.now (D.state swapper.old.disk) swapper.old.pool (D.state swapper.new.disk)) }
-    ensures moves { Moves (D.state swapper.old.disk) (D.state swapper.new.disk) }
+        (MayWritePage sector wanted bytes.now (D.state memory.old.disk) memory.old.pool (D.state memory.new.disk)) }
+    ensures moves { Moves (D.state memory.old.disk) (D.state memory.new.disk) }
     ensures fails { IfErr result
-        (FailsBy (λ m. HasOne (ones_of wanted) m sector) (IsNotOf sector wanted) (D.state swapper.old.disk)
-        swapper.old.pool (D.state swapper.new.disk)) }
-    ensures frames { swapper.new.pool ≡ swapper.old.pool }
-    ensures layout { swapper.new.layout ≡ swapper.old.layout }
+        (FailsBy (λ m. HasOne (ones_of wanted) m sector) (IsNotOf sector wanted) (D.state memory.old.disk)
+        memory.old.pool (D.state memory.new.disk)) }
+    ensures frames { memory.new.pool ≡ memory.old.pool }
+    ensures layout { memory.new.layout ≡ memory.old.layout }
 {
-    let disk = swapper.disk_over();
+    let disk = memory.disk_over();
     match disk.write_data(sector, wanted, bytes) {
         Ok(()) => Ok(()),
         Err(DiskError::Failed) => Err(Halt::Disk),

@@ -38,29 +38,29 @@ impl Mark {
 
 /// Gives a free data sector the label of a page, and a page of zeros.
 pub fn make_page<D: Disk, A: Allocator>(
-    swapper: &mut Swapper<D, A>,
+    memory: &mut Swapper<D, A>,
     sector: u32,
     label: Label,
 ) -> Result<(), Halt>
-    requires data { AreData (D.state swapper.old.disk) swapper.old.layout sector 1 }
+    requires data { AreData (D.state memory.old.disk) memory.old.layout sector 1 }
     requires form { IsFresh label }
     ensures made { OnOk result
-        (Relabels free_ones sector (write.Whole sector label zero_bytes) (D.state swapper.old.disk) swapper.old.pool
-        (D.state swapper.new.disk)) }
+        (Relabels free_ones sector (write.Whole sector label zero_bytes) (D.state memory.old.disk) memory.old.pool
+        (D.state memory.new.disk)) }
     ensures stopped { OnErr result
-        (MayRelabel free_ones sector (write.Whole sector label zero_bytes) (D.state swapper.old.disk)
-        swapper.old.pool (D.state swapper.new.disk)) }
+        (MayRelabel free_ones sector (write.Whole sector label zero_bytes) (D.state memory.old.disk)
+        memory.old.pool (D.state memory.new.disk)) }
     ensures fails { IfErr result
         (FailsBy (λ m. HasOne free_ones m sector) (IsTaken sector)
-        (D.state swapper.old.disk) swapper.old.pool (D.state swapper.new.disk)) }
-    ensures frames { swapper.new.pool ≡ swapper.old.pool }
-    ensures layout { swapper.new.layout ≡ swapper.old.layout }
-    ensures cost { (D.state swapper.new.disk).transfers ≤ (D.state swapper.old.disk).transfers + 2 }
-    ensures own { (other : ℕ) → RelabelsOwn other (D.state swapper.old.disk) (D.state swapper.new.disk) }
+        (D.state memory.old.disk) memory.old.pool (D.state memory.new.disk)) }
+    ensures frames { memory.new.pool ≡ memory.old.pool }
+    ensures layout { memory.new.layout ≡ memory.old.layout }
+    ensures cost { (D.state memory.new.disk).transfers ≤ (D.state memory.old.disk).transfers + 2 }
+    ensures own { (other : ℕ) → RelabelsOwn other (D.state memory.old.disk) (D.state memory.new.disk) }
     ensures alone { OnErr result
-        (MayBeFresh sector label (D.state swapper.old.disk) (D.state swapper.new.disk)) }
+        (MayBeFresh sector label (D.state memory.old.disk) (D.state memory.new.disk)) }
 {
-    let found = match read_label(swapper, sector) {
+    let found = match read_label(memory, sector) {
         Ok(found) => found,
         Err(halt) => return Err(halt),
     };
@@ -71,7 +71,7 @@ pub fn make_page<D: Disk, A: Allocator>(
             found,
         }));
     }
-    match write_fresh(swapper, sector, label) {
+    match write_fresh(memory, sector, label) {
         Ok(()) => (),
         Err(halt) => return Err(halt),
     }
@@ -80,30 +80,30 @@ pub fn make_page<D: Disk, A: Allocator>(
 
 /// Gives a data sector that has this page of a file, or of the space tables, a free label.
 pub fn free_page<D: Disk, A: Allocator>(
-    swapper: &mut Swapper<D, A>,
+    memory: &mut Swapper<D, A>,
     sector: u32,
     wanted: Wanted,
 ) -> Result<(), Halt>
-    requires data { AreData (D.state swapper.old.disk) swapper.old.layout sector 1 }
+    requires data { AreData (D.state memory.old.disk) memory.old.layout sector 1 }
     requires of_file { (wanted.id ≡ 3) ⊎ (16 ≤ wanted.id) }
     ensures freed { OnOk result
-        (Relabels (ones_of wanted) sector (write.LabelOnly sector free_label) (D.state swapper.old.disk)
-        swapper.old.pool (D.state swapper.new.disk)) }
+        (Relabels (ones_of wanted) sector (write.LabelOnly sector free_label) (D.state memory.old.disk)
+        memory.old.pool (D.state memory.new.disk)) }
     ensures stopped { OnErr result
-        (MayRelabel (ones_of wanted) sector (write.LabelOnly sector free_label) (D.state swapper.old.disk)
-        swapper.old.pool (D.state swapper.new.disk)) }
+        (MayRelabel (ones_of wanted) sector (write.LabelOnly sector free_label) (D.state memory.old.disk)
+        memory.old.pool (D.state memory.new.disk)) }
     ensures fails { IfErr result
         (FailsBy (λ m. HasOne (ones_of wanted) m sector) (IsNotOf sector wanted)
-        (D.state swapper.old.disk) swapper.old.pool (D.state swapper.new.disk)) }
-    ensures frames { swapper.new.pool ≡ swapper.old.pool }
-    ensures layout { swapper.new.layout ≡ swapper.old.layout }
-    ensures cost { (D.state swapper.new.disk).transfers ≤ (D.state swapper.old.disk).transfers + 2 }
-    ensures labels { RelabelsAround wanted.id result (D.state swapper.old.disk) (D.state swapper.new.disk) }
-    ensures unsynced { (label : Label) → HasLabel (D.state swapper.old.disk) sector label → is_permanent label ≡ false
-        → (d : List Sector) → (D.state swapper.old.disk).contents ≡ Some d
-        → (D.state swapper.new.disk).syncs ≡ (D.state swapper.old.disk).syncs }
+        (D.state memory.old.disk) memory.old.pool (D.state memory.new.disk)) }
+    ensures frames { memory.new.pool ≡ memory.old.pool }
+    ensures layout { memory.new.layout ≡ memory.old.layout }
+    ensures cost { (D.state memory.new.disk).transfers ≤ (D.state memory.old.disk).transfers + 2 }
+    ensures labels { RelabelsAround wanted.id result (D.state memory.old.disk) (D.state memory.new.disk) }
+    ensures unsynced { (label : Label) → HasLabel (D.state memory.old.disk) sector label → is_permanent label ≡ false
+        → (d : List Sector) → (D.state memory.old.disk).contents ≡ Some d
+        → (D.state memory.new.disk).syncs ≡ (D.state memory.old.disk).syncs }
 {
-    let found = match read_label(swapper, sector) {
+    let found = match read_label(memory, sector) {
         Ok(found) => found,
         Err(halt) => return Err(halt),
     };
@@ -114,7 +114,7 @@ pub fn free_page<D: Disk, A: Allocator>(
             found,
         }));
     }
-    match relabel(swapper, sector, found, Label::FREE) {
+    match relabel(memory, sector, found, Label::FREE) {
         Ok(()) => (),
         Err(halt) => return Err(halt),
     }
@@ -123,36 +123,36 @@ pub fn free_page<D: Disk, A: Allocator>(
 
 /// Gives the leader of a file, which stands in this data sector, a mark more.
 pub fn mark_leader<D: Disk, A: Allocator>(
-    swapper: &mut Swapper<D, A>,
+    memory: &mut Swapper<D, A>,
     sector: u32,
     id: FileId,
     mark: Mark,
 ) -> Result<(), Halt>
-    requires data { AreData (D.state swapper.old.disk) swapper.old.layout sector 1 }
+    requires data { AreData (D.state memory.old.disk) memory.old.layout sector 1 }
     requires of_file { 16 ≤ id }
     ensures marked { OnOk result
         ((label : Label)
         × Relabels (λ l. (l ≡ label) × ones_of (record { id = id; page = leader_page }) l) sector
-        (write.LabelOnly sector (with_mark mark label)) (D.state swapper.old.disk) swapper.old.pool
-        (D.state swapper.new.disk)) }
+        (write.LabelOnly sector (with_mark mark label)) (D.state memory.old.disk) memory.old.pool
+        (D.state memory.new.disk)) }
     ensures stopped { OnErr result
-        (MayMark (record { id = id; page = leader_page }) mark sector (D.state swapper.old.disk) swapper.old.pool
-        (D.state swapper.new.disk) swapper.new.pool) }
+        (MayMark (record { id = id; page = leader_page }) mark sector (D.state memory.old.disk) memory.old.pool
+        (D.state memory.new.disk) memory.new.pool) }
     ensures fails { IfErr result
         (FailsBy (λ m. HasOne (ones_of (record { id = id; page = leader_page })) m sector)
-        (IsNotOf sector (record { id = id; page = leader_page })) (D.state swapper.old.disk) swapper.old.pool
-        (D.state swapper.new.disk)) }
-    ensures frames { swapper.new.pool ≡ swapper.old.pool }
-    ensures layout { swapper.new.layout ≡ swapper.old.layout }
-    ensures cost { (D.state swapper.new.disk).transfers ≤ (D.state swapper.old.disk).transfers + 2 }
-    ensures labels { RelabelsAround id result (D.state swapper.old.disk) (D.state swapper.new.disk) }
-    ensures unsynced { (label : Label) → HasLabel (D.state swapper.old.disk) sector label
+        (IsNotOf sector (record { id = id; page = leader_page })) (D.state memory.old.disk) memory.old.pool
+        (D.state memory.new.disk)) }
+    ensures frames { memory.new.pool ≡ memory.old.pool }
+    ensures layout { memory.new.layout ≡ memory.old.layout }
+    ensures cost { (D.state memory.new.disk).transfers ≤ (D.state memory.old.disk).transfers + 2 }
+    ensures labels { RelabelsAround id result (D.state memory.old.disk) (D.state memory.new.disk) }
+    ensures unsynced { (label : Label) → HasLabel (D.state memory.old.disk) sector label
         → is_permanent (with_mark mark label) ≡ false → (d : List Sector)
-        → (D.state swapper.old.disk).contents ≡ Some d
-        → (D.state swapper.new.disk).syncs ≡ (D.state swapper.old.disk).syncs }
+        → (D.state memory.old.disk).contents ≡ Some d
+        → (D.state memory.new.disk).syncs ≡ (D.state memory.old.disk).syncs }
 {
     let wanted = Wanted { id, page: LEADER };
-    let found = match read_label(swapper, sector) {
+    let found = match read_label(memory, sector) {
         Ok(found) => found,
         Err(halt) => return Err(halt),
     };
@@ -163,7 +163,7 @@ pub fn mark_leader<D: Disk, A: Allocator>(
             found,
         }));
     }
-    match relabel(swapper, sector, found, mark.on(found)) {
+    match relabel(memory, sector, found, mark.on(found)) {
         Ok(()) => (),
         Err(halt) => return Err(halt),
     }

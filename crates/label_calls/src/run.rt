@@ -17,35 +17,35 @@ use swapper_kernel::Swapper;
 
 /// Gives free data sectors in a row the labels of the pages of a file from `page` on, and pages of zeros.
 pub fn make_pages<D: Disk, A: Allocator>(
-    swapper: &mut Swapper<D, A>,
+    memory: &mut Swapper<D, A>,
     sector: u32,
     pages: u32,
     id: FileId,
     kind: u16,
     page: u32,
 ) -> Result<(), Halt>
-    requires data { AreData (D.state swapper.old.disk) swapper.old.layout sector pages }
+    requires data { AreData (D.state memory.old.disk) memory.old.layout sector pages }
     requires numbers { page + pages ≤ 2 ^ 32 }
     requires of_file { AreOfFile id kind page pages }
     ensures made { OnOk result
         (RelabelsOnes (λ k. free_ones) sector pages (growth id kind page (range_with_len sector pages))
-        (D.state swapper.old.disk) swapper.old.pool (D.state swapper.new.disk)) }
+        (D.state memory.old.disk) memory.old.pool (D.state memory.new.disk)) }
     ensures stopped { OnErr result
         (NamedSome (λ k. sector + k) (λ k. free_ones) (growth id kind page (range_with_len sector pages))
-        (D.state swapper.old.disk) swapper.old.pool (D.state swapper.new.disk)) }
+        (D.state memory.old.disk) memory.old.pool (D.state memory.new.disk)) }
     ensures fails { IfErr result
-        (FailsBy (AreRight (λ k. free_ones) sector pages swapper.old.pool)
-        (IsOneTaken sector pages) (D.state swapper.old.disk)
-        swapper.old.pool (D.state swapper.new.disk)) }
-    ensures frames { swapper.new.pool ≡ swapper.old.pool }
-    ensures layout { swapper.new.layout ≡ swapper.old.layout }
-    ensures cost { (D.state swapper.new.disk).transfers ≤ (D.state swapper.old.disk).transfers + 2 * pages }
-    ensures own { (other : ℕ) → RelabelsOwn other (D.state swapper.old.disk) (D.state swapper.new.disk) }
-    ensures fresh { WritesFresh sector pages (D.state swapper.old.disk) (D.state swapper.new.disk) }
+        (FailsBy (AreRight (λ k. free_ones) sector pages memory.old.pool)
+        (IsOneTaken sector pages) (D.state memory.old.disk)
+        memory.old.pool (D.state memory.new.disk)) }
+    ensures frames { memory.new.pool ≡ memory.old.pool }
+    ensures layout { memory.new.layout ≡ memory.old.layout }
+    ensures cost { (D.state memory.new.disk).transfers ≤ (D.state memory.old.disk).transfers + 2 * pages }
+    ensures own { (other : ℕ) → RelabelsOwn other (D.state memory.old.disk) (D.state memory.new.disk) }
+    ensures fresh { WritesFresh sector pages (D.state memory.old.disk) (D.state memory.new.disk) }
 {
     for k in 0..pages {
         let label = Label::of_page(id, kind, page + k);
-        match make_page(swapper, sector + k, label) {
+        match make_page(memory, sector + k, label) {
             Ok(()) => (),
             Err(halt) => return Err(halt),
         }
@@ -55,35 +55,35 @@ pub fn make_pages<D: Disk, A: Allocator>(
 
 /// Gives data sectors in a row that have the pages of a file from `page` on free labels, the first page first.
 pub fn free_pages_up<D: Disk, A: Allocator>(
-    swapper: &mut Swapper<D, A>,
+    memory: &mut Swapper<D, A>,
     sector: u32,
     pages: u32,
     id: FileId,
     page: u32,
 ) -> Result<(), Halt>
-    requires data { AreData (D.state swapper.old.disk) swapper.old.layout sector pages }
+    requires data { AreData (D.state memory.old.disk) memory.old.layout sector pages }
     requires numbers { page + pages ≤ 2 ^ 32 }
     requires of_file { (id ≡ 3) ⊎ (16 ≤ id) }
     ensures freed { OnOk result
         (RelabelsOnes (λ k. ones_of (record { id = id; page = page + k })) sector pages
-        (freeing (range_with_len sector pages)) (D.state swapper.old.disk) swapper.old.pool
-        (D.state swapper.new.disk)) }
+        (freeing (range_with_len sector pages)) (D.state memory.old.disk) memory.old.pool
+        (D.state memory.new.disk)) }
     ensures stopped { OnErr result
         (NamedSome (λ k. sector + k) (λ k. ones_of (record { id = id; page = page + k }))
-        (freeing (range_with_len sector pages)) (D.state swapper.old.disk) swapper.old.pool
-        (D.state swapper.new.disk)) }
+        (freeing (range_with_len sector pages)) (D.state memory.old.disk) memory.old.pool
+        (D.state memory.new.disk)) }
     ensures fails { IfErr result
-        (FailsBy (AreRight (λ k. ones_of (record { id = id; page = page + k })) sector pages swapper.old.pool)
-        (IsOneNotOf sector pages (λ k. record { id = id; page = page + k })) (D.state swapper.old.disk)
-        swapper.old.pool (D.state swapper.new.disk)) }
-    ensures frames { swapper.new.pool ≡ swapper.old.pool }
-    ensures layout { swapper.new.layout ≡ swapper.old.layout }
-    ensures cost { (D.state swapper.new.disk).transfers ≤ (D.state swapper.old.disk).transfers + 2 * pages }
-    ensures labels { RelabelsAround id result (D.state swapper.old.disk) (D.state swapper.new.disk) }
+        (FailsBy (AreRight (λ k. ones_of (record { id = id; page = page + k })) sector pages memory.old.pool)
+        (IsOneNotOf sector pages (λ k. record { id = id; page = page + k })) (D.state memory.old.disk)
+        memory.old.pool (D.state memory.new.disk)) }
+    ensures frames { memory.new.pool ≡ memory.old.pool }
+    ensures layout { memory.new.layout ≡ memory.old.layout }
+    ensures cost { (D.state memory.new.disk).transfers ≤ (D.state memory.old.disk).transfers + 2 * pages }
+    ensures labels { RelabelsAround id result (D.state memory.old.disk) (D.state memory.new.disk) }
 {
     for k in 0..pages {
         let wanted = Wanted { id, page: page + k };
-        match free_page(swapper, sector + k, wanted) {
+        match free_page(memory, sector + k, wanted) {
             Ok(()) => (),
             Err(halt) => return Err(halt),
         }
@@ -93,32 +93,32 @@ pub fn free_pages_up<D: Disk, A: Allocator>(
 
 /// Gives data sectors in a row that have the pages of a file from `page` on free labels, the last page first.
 pub fn free_pages_down<D: Disk, A: Allocator>(
-    swapper: &mut Swapper<D, A>,
+    memory: &mut Swapper<D, A>,
     sector: u32,
     pages: u32,
     id: FileId,
     page: u32,
 ) -> Result<(), Halt>
-    requires data { AreData (D.state swapper.old.disk) swapper.old.layout sector pages }
+    requires data { AreData (D.state memory.old.disk) memory.old.layout sector pages }
     requires numbers { page + pages ≤ 2 ^ 32 }
     requires of_file { (id ≡ 3) ⊎ (16 ≤ id) }
     ensures freed { OnOk result
         (RelabelsOnes (λ k. ones_of (record { id = id; page = page + k })) sector pages
-        (freeing (map (λ k. sector + (pages - (k + 1))) (range_with_len 0 pages))) (D.state swapper.old.disk)
-        swapper.old.pool (D.state swapper.new.disk)) }
+        (freeing (map (λ k. sector + (pages - (k + 1))) (range_with_len 0 pages))) (D.state memory.old.disk)
+        memory.old.pool (D.state memory.new.disk)) }
     ensures stopped { OnErr result
         (NamedSome (λ k. sector + (pages - (k + 1)))
         (λ k. ones_of (record { id = id; page = page + (pages - (k + 1)) }))
-        (freeing (map (λ k. sector + (pages - (k + 1))) (range_with_len 0 pages))) (D.state swapper.old.disk)
-        swapper.old.pool (D.state swapper.new.disk)) }
+        (freeing (map (λ k. sector + (pages - (k + 1))) (range_with_len 0 pages))) (D.state memory.old.disk)
+        memory.old.pool (D.state memory.new.disk)) }
     ensures fails { IfErr result
-        (FailsBy (AreRight (λ k. ones_of (record { id = id; page = page + k })) sector pages swapper.old.pool)
-        (IsOneNotOf sector pages (λ k. record { id = id; page = page + k })) (D.state swapper.old.disk)
-        swapper.old.pool (D.state swapper.new.disk)) }
-    ensures frames { swapper.new.pool ≡ swapper.old.pool }
-    ensures layout { swapper.new.layout ≡ swapper.old.layout }
-    ensures cost { (D.state swapper.new.disk).transfers ≤ (D.state swapper.old.disk).transfers + 2 * pages }
-    ensures labels { RelabelsAround id result (D.state swapper.old.disk) (D.state swapper.new.disk) }
+        (FailsBy (AreRight (λ k. ones_of (record { id = id; page = page + k })) sector pages memory.old.pool)
+        (IsOneNotOf sector pages (λ k. record { id = id; page = page + k })) (D.state memory.old.disk)
+        memory.old.pool (D.state memory.new.disk)) }
+    ensures frames { memory.new.pool ≡ memory.old.pool }
+    ensures layout { memory.new.layout ≡ memory.old.layout }
+    ensures cost { (D.state memory.new.disk).transfers ≤ (D.state memory.old.disk).transfers + 2 * pages }
+    ensures labels { RelabelsAround id result (D.state memory.old.disk) (D.state memory.new.disk) }
 {
     for k in 0..pages {
         let after = pages - (k + 1);
@@ -126,7 +126,7 @@ pub fn free_pages_down<D: Disk, A: Allocator>(
             id,
             page: page + after,
         };
-        match free_page(swapper, sector + after, wanted) {
+        match free_page(memory, sector + after, wanted) {
             Ok(()) => (),
             Err(halt) => return Err(halt),
         }

@@ -152,7 +152,7 @@ module _ (e k pages : ℕ) (b : List ℕ) (records : List (List ℕ)) (levels le
       below = omega (arith, next, home_in);
       place = omega (arith, pending.rebalance.pos_is, before_more (nodes level) (before (nodes (level + 1)) q + (i - 1)) (omega (arith, next, home_in)), ap (before (nodes level)) next_one);
       inside = omega (arith, pending.inside, length-append (node_at (nodes level) (before (nodes (level + 1)) q + (i - 1))).items (node_at (nodes level) (suc (before (nodes (level + 1)) q + (i - 1)))).items, ap (λ (m : ℕ). length (node_at (nodes level) m).items) (sym next));
-      under = under;
+      lower = under;
       listed = omega (arith, after);
       left_is = left_is ∙ child_link (i - 1) (omega (arith, chosen, i_is));
       right_is = pending.rebalance.path.here ∙ ap (λ (m : ℕ). (node_at (nodes level) m).page) (sym next);
@@ -201,7 +201,7 @@ module _ (e k pages : ℕ) (b : List ℕ) (records : List (List ℕ)) (levels le
       below = omega (arith, next, child_in 1 one_in);
       place = pending.rebalance.pos_is;
       inside = omega (arith, pending.inside, length-append (node_at (nodes level) home).items (node_at (nodes level) (suc home)).items);
-      under = under;
+      lower = under;
       listed = next;
       left_is = pending.rebalance.path.here;
       right_is = right_is ∙ child_link 1 one_in ∙ ap (λ (m : ℕ). (node_at (nodes level) m).page) (sym next);

@@ -25,7 +25,7 @@ page_some e k l page xs some is = elim (cases_eq l 1) [
 module _ (e k pages : ℕ) (b : List ℕ) (records : List (List ℕ)) (levels level : ℕ) (paths index : List ℕ) (left_at right_at slot : ℕ) (left right key : List ℕ) (root first top : ℕ)
     (pair : IsPair e k pages b records levels level paths index left_at right_at slot left right key root first top) (some : 1 ≤ level) (size : 512 * pages ≤ length b) (new other : List ℕ) (long : length new ≡ 512) (long' : length other ≡ 512) where
   most : level ≤ levels
-  most = omega (arith, pair.under)
+  most = omega (arith, pair.lower)
 
   second : suc pair.p < length (pair.rebalance.nodes level)
   second = omega (arith, pair.below)
@@ -94,7 +94,7 @@ module _ (e k pages : ℕ) (b : List ℕ) (records : List (List ℕ)) (levels le
       → IsRebalance e k pages (overwritten (overwritten b (512 * left_at) new) (512 * right_at) other) records levels (level + 1) paths index (get_or paths (level + 1) 0) slot 1 [] root right_at top
   pair_joined joined kind next =
       subst (λ (q : ℕ). IsRebalance e k pages whole records levels (level + 1) paths index (get_or paths (level + 1) 0) slot 1 [] root q top) (sym pair.right_is)
-      (rebalance_merge e k pages pair.was records levels level paths index pair.at pair.from pair.less pair.its root first top pair.rebalance some most whole pair.p pair.j slot pair.below pair.place pair.inside pair.under pair.listed stays_was
+      (rebalance_merge e k pages pair.was records levels level paths index pair.at pair.from pair.less pair.its root first top pair.rebalance some most whole pair.p pair.j slot pair.below pair.place pair.inside pair.lower pair.listed stays_was
       (record { page = left_at; items = pair.xs ++ pair.ys })
       (pair.left_is, keeps_head (pair.xs ++ pair.ys) both_first)
       pair.both
@@ -110,7 +110,7 @@ module _ (e k pages : ℕ) (b : List ℕ) (records : List (List ℕ)) (levels le
       → IsRebalance e k pages (overwritten (overwritten b (512 * left_at) new) (512 * right_at) other) records levels (level + 1) paths index (get_or paths (level + 1) 0) slot 1 (child_item key' right_at ∷ []) root first top
   pair_shifted key' halves =
       subst (λ (x : List ℕ). IsRebalance e k pages whole records levels (level + 1) paths index (get_or paths (level + 1) 0) slot 1 (child_item x right_at ∷ []) root first top) (sym halves.key_is)
-      (rebalance_borrow e k pages pair.was records levels level paths index pair.at pair.from pair.less pair.its root first top pair.rebalance some most whole pair.p pair.j slot pair.below pair.place pair.inside pair.under pair.listed stays_was
+      (rebalance_borrow e k pages pair.was records levels level paths index pair.at pair.from pair.less pair.its root first top pair.rebalance some most whole pair.p pair.j slot pair.below pair.place pair.inside pair.lower pair.listed stays_was
       (record { page = left_at; items = take halves.m (pair.xs ++ pair.ys) })
       (record { page = right_at; items = drop halves.m (pair.xs ++ pair.ys) })
       (pair.left_is, keeps_head (take halves.m (pair.xs ++ pair.ys)) (ap (λ (x : Item). x.key) (get_or-take halves.m (pair.xs ++ pair.ys) 0 no_item halves.some) ∙ both_first))

@@ -40,7 +40,7 @@ pub record IsOnLevel (pages level at : ℕ) : Type 0 where
 -- a level of a tree below that of the root
 pub record IsBelowRoot (levels level : ℕ) : Type 0 where
   pub some : 1 ≤ level
-  pub under : level < levels
+  pub lower : level < levels
   pub few : levels ≤ 6
 
 -- the memory has each page of the path above the leaf

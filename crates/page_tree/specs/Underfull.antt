@@ -34,7 +34,7 @@ pub record IsPair (e k pages : ℕ) (c : List ℕ) (records : List (List ℕ)) (
   pub below : p + 1 < length (rebalance.nodes level)
   pub place : rebalance.pos ≡ before (rebalance.nodes level) p + j
   pub inside : j + less ≤ length ((node_at (rebalance.nodes level) p).items ++ (node_at (rebalance.nodes level) (suc p)).items)
-  pub under : level < levels
+  pub lower : level < levels
   pub listed : suc p ≡ before (rebalance.nodes (level + 1)) (rebalance.place (level + 1)) + slot
   pub left_is : left_at ≡ (node_at (rebalance.nodes level) p).page
   pub right_is : right_at ≡ (node_at (rebalance.nodes level) (suc p)).page

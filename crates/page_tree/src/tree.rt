@@ -246,10 +246,10 @@ impl<M: FlatMem, const E: usize, const K: usize> PageTree<M, E, K> {
     pub fn nth(&mut self, index: u32, into: &mut [u8; E]) -> Result<(), TreeError<M::Error>>
         ensures entry { (xs : List (List ℕ)) → Lists self.old xs → index < length xs
             → MatchResult result (λ _. into.new ≡ entry_at xs index) FromMemory }
-        ensures past { (xs : List (List ℕ)) → Lists self.old xs → length xs ≤ index
-            → MatchResult result (λ _. ⊥) IsPast }
-        ensures past_any { (b : List ℕ) → M.reveals (tree_memory self.old) b → count_in (page_at b 0) ≤ index
-            → MatchResult result (λ _. ⊥) IsPast }
+        ensures past { ((xs : List (List ℕ)) → Lists self.old xs → length xs ≤ index
+            → MatchResult result (λ _. ⊥) IsPast)
+            × ((b : List ℕ) → M.reveals (tree_memory self.old) b → count_in (page_at b 0) ≤ index
+            → MatchResult result (λ _. ⊥) IsPast) }
         ensures stands { (b : List ℕ) → M.reveals (tree_memory self.old) b
             → IfOk result (λ _. IsNth E K b index into.new) }
         ensures malformed { (b : List ℕ) → M.reveals (tree_memory self.old) b

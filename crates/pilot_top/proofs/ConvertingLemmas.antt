@@ -21,7 +21,7 @@ use Rattle.old_files.specs.OldFiles.{files_old}
 use Rattle.volume_convert.specs.declared.converting.Converted.{Converted}
 use Rattle.volume_convert.specs.declared.fault.ConvertFault.{ConvertFault}
 use Rattle.volume_convert.specs.declared.fault.ConvertFault.TheVariants as why
-use Rattle.volume_convert.specs.Answers.{AccordsOld, HasNoRoom, IsNoOldVolume, JudgesRoom, JudgesRoot, LeavesOthers}
+use Rattle.volume_convert.specs.Answers.{AccordsOld, HasNoRoom, IsNoOldVolume, LeavesOthers, Refuses}
 use Rattle.volume_convert.specs.Leaves.{AreMade, ArePartMade, CostsAtMost, IsConverted, IsRevealed, StaysConvertible}
 use Rattle.pilot_top.specs.Causes.{HasReason}
 use Rattle.pilot_top.specs.Converting.{ConvertedBy, IsConversionLine, IsOldVolume, conversion_line, converted_text}
@@ -64,9 +64,7 @@ IsAnswered result old new = record {
   made : OnOk result (AreMade old new);
   part : result ≡ Err why.Disk → ArePartMade old new;
   crash_states : StaysConvertible old new;
-  root : JudgesRoot old result;
-  room : JudgesRoom old result;
-  unwritten : (e : ConvertFault) → result ≡ Err e → e ≢ why.Disk → OnlyReads old new;
+  refuses : Refuses old new result;
   others : LeavesOthers old new;
   cause : result ≡ Err why.Disk → Rose old.faults new.faults;
   later : IsLater old new;
@@ -82,16 +80,16 @@ module _ (result : Result Converted ConvertFault) (old new : DiskState) (all : I
   no_volume d revealed f is = elim (is_old_count_or old.sectors) [
     | inl count ↦
         let s = first_sector d (omega (arith, count.0, whole d revealed)) in
-        inr (counted d revealed count, s.0, s.1, subst (λ (r : Result Converted ConvertFault). AccordsOld r (judged_old (length d) s.0)) is (all.root.judged count d revealed s.0 s.1))
+        inr (counted d revealed count, s.0, s.1, subst (λ (r : Result Converted ConvertFault). AccordsOld r (judged_old (length d) s.0)) is (all.refuses.root.judged count d revealed s.0 s.1))
     | inr none ↦
-        let e = sym is ∙ all.root.count none in
+        let e = sym is ∙ all.refuses.root.count none in
         inl (λ count. none (subst (λ (n : ℕ). IsOldCount n) (whole d revealed) count), cc e ∙ ap (λ (n : ℕ). fault.BadCount n) (sym (whole d revealed)))
   ]
 
   refuses : (d : List Sector) → old.contents ≡ Some d → (f : RootFault) → IsNoOldVolume d f → (result ≡ Err (why.Root f)) ⊎ (result ≡ Err why.Disk)
   refuses d revealed f (inl none) =
-      inl (all.root.count (λ count. none.0 (counted d revealed count)) ∙ ap (λ (x : RootFault). Err (why.Root x)) (ap (λ (n : ℕ). fault.BadCount n) (sym (whole d revealed)) ∙ sym none.1))
-  refuses d revealed f (inr is) = refused_so f result (judged_old (length d) is.1) (all.root.judged (subst (λ (n : ℕ). IsOldCount n) (whole d revealed) is.0) d revealed is.1 is.2) is.3
+      inl (all.refuses.root.count (λ count. none.0 (counted d revealed count)) ∙ ap (λ (x : RootFault). Err (why.Root x)) (ap (λ (n : ℕ). fault.BadCount n) (sym (whole d revealed)) ∙ sym none.1))
+  refuses d revealed f (inr is) = refused_so f result (judged_old (length d) is.1) (all.refuses.root.judged (subst (λ (n : ℕ). IsOldCount n) (whole d revealed) is.0) d revealed is.1 is.2) is.3
 
   -- an answer that is no refusal of the root comes of an old volume
   is_old : (r : Result Converted ConvertFault) → result ≡ r → ((f : RootFault) → r ≢ Err (why.Root f)) → r ≢ Err why.Disk → (d : List Sector) → old.contents ≡ Some d → IsOldVolume d
@@ -103,7 +101,7 @@ module _ (result : Result Converted ConvertFault) (old new : DiskState) (all : I
   -- files for which an answer shows room have it
   has_room : (found : Converted) → result ≡ Ok found → (d : List Sector) → old.contents ≡ Some d → HasNoRoom d → ⊥
   has_room found is d revealed none =
-      let fits = subst (λ (r : Result Converted ConvertFault). OnOk r (total_room (files_old d) ≤ capacity (length d))) is (all.room.fits d revealed) in
+      let fits = subst (λ (r : Result Converted ConvertFault). OnOk r (total_room (files_old d) ≤ capacity (length d))) is (all.refuses.room.fits d revealed) in
       omega (arith, fits, none)
 
   -- an old volume's count of sectors is a volume's
@@ -146,7 +144,7 @@ module _ (result : Result Converted ConvertFault) (old new : DiskState) (all : I
         part = λ failed. absurd (cc failed);
         part_line = λ failed. absurd (cc failed);
         crash_states = all.crash_states;
-        count = λ none. absurd (let e = sym is ∙ all.root.count none in cc e);
+        count = λ none. absurd (let e = sym is ∙ all.refuses.root.count none in cc e);
         no_volume = λ d revealed opened. absurd (cc opened);
         no_volume_refused = λ d f revealed none. absurd (volume_is_old d revealed f none);
         no_volume_unwritten = λ d f revealed none. absurd (volume_is_old d revealed f none);
@@ -168,7 +166,7 @@ module _ (result : Result Converted ConvertFault) (old new : DiskState) (all : I
         part = λ failed. absurd (cc failed);
         part_line = λ failed. absurd (cc failed);
         crash_states = all.crash_states;
-        count = λ none. absurd (let e = sym is ∙ all.root.count none in cc e);
+        count = λ none. absurd (let e = sym is ∙ all.refuses.root.count none in cc e);
         no_volume = λ d revealed opened. absurd (cc opened);
         no_volume_refused = λ d f revealed none. absurd (volume_is_old d revealed f none);
         no_volume_unwritten = λ d f revealed none. absurd (volume_is_old d revealed f none);
@@ -181,11 +179,11 @@ module _ (result : Result Converted ConvertFault) (old new : DiskState) (all : I
     -- the root is refused
     module _ (f : RootFault) (is : result ≡ Err (why.Root f)) where
       reads : OnlyReads old new
-      reads = all.unwritten (why.Root f) is (λ e. cc e)
+      reads = all.refuses.unwritten (why.Root f) is (λ e. cc e)
 
       names_count : (IsOldCount old.sectors → ⊥) → Puts (Rose m n) t u (last_line (cause.Root f)) → Puts (Rose m n) t u (last_line (cause.Root (fault.BadCount old.sectors)))
       names_count none put =
-          let both : why.Root f ≡ why.Root (fault.BadCount old.sectors) = let e = sym is ∙ all.root.count none in cc e in
+          let both : why.Root f ≡ why.Root (fault.BadCount old.sectors) = let e = sym is ∙ all.refuses.root.count none in cc e in
           let same : f ≡ fault.BadCount old.sectors = cc both in
           subst (λ (x : RootFault). Puts (Rose m n) t u (last_line (cause.Root x))) same put
 
@@ -239,19 +237,19 @@ module _ (result : Result Converted ConvertFault) (old new : DiskState) (all : I
         part = λ failed. absurd (cc failed);
         part_line = λ failed. absurd (cc failed);
         crash_states = all.crash_states;
-        count = λ none. absurd (let e = sym is ∙ all.root.count none in cc e);
+        count = λ none. absurd (let e = sym is ∙ all.refuses.root.count none in cc e);
         no_volume = λ d revealed opened. absurd (cc opened);
         no_volume_refused = λ d f revealed none. absurd (volume_is_old d revealed f none);
         no_volume_unwritten = λ d f revealed none. absurd (volume_is_old d revealed f none);
         unfit = λ d revealed unfit.
-            let wants = subst (λ (k : ℕ). Puts (Rose m n) t u (last_line (cause.Unfit k room))) (all.room.unfit wanted room is d revealed) put in (
+            let wants = subst (λ (k : ℕ). Puts (Rose m n) t u (last_line (cause.Unfit k room))) (all.refuses.room.unfit wanted room is d revealed) put in (
               volume_is_old d revealed,
               too_many d revealed,
-              all.unwritten (why.Unfit wanted room) is (λ e. cc e),
+              all.refuses.unwritten (why.Unfit wanted room) is (λ e. cc e),
               subst (λ (k : ℕ). Puts (Rose m n) t u (last_line (cause.Unfit (total_room (files_old d)) k))) (room_is d revealed) wants,
             );
         unfit_refused = λ d revealed volume none. inl refl;
-        no_room_unwritten = λ d revealed none. all.unwritten (why.Unfit wanted room) is (λ e. cc e);
+        no_room_unwritten = λ d revealed none. all.refuses.unwritten (why.Unfit wanted room) is (λ e. cc e);
         complete = λ d revealed volume fits disk_held sink_held. absurd (fits (too_many d revealed));
       }
         where
@@ -259,25 +257,25 @@ module _ (result : Result Converted ConvertFault) (old new : DiskState) (all : I
           volume_is_old = is_old (Err (why.Unfit wanted room)) is (λ f e. cc e) (λ e. cc e)
 
           room_is : (d : List Sector) → old.contents ≡ Some d → room ≡ capacity (length d)
-          room_is d revealed = (all.room.wants wanted room is).0 ∙ ap capacity (sym (whole d revealed))
+          room_is d revealed = (all.refuses.room.wants wanted room is).0 ∙ ap capacity (sym (whole d revealed))
 
           too_many : (d : List Sector) → old.contents ≡ Some d → HasNoRoom d
-          too_many d revealed = omega (arith, all.room.unfit wanted room is d revealed, room_is d revealed, (all.room.wants wanted room is).1)
+          too_many d revealed = omega (arith, all.refuses.room.unfit wanted room is d revealed, room_is d revealed, (all.refuses.room.wants wanted room is).1)
 
       pub reason_unfit : (words : List (String Global)) → Means words command.Convert → Puts (Rose m n) t u (last_line (cause.Unfit wanted room)) → HasReason words status.Unfit before after
       reason_unfit words means put = record {
         disk = λ e. absurd (cc e);
         stream = λ e. absurd (cc e);
         not_opened = λ e. absurd (cc e);
-        count = λ some none. absurd (let e = sym is ∙ all.root.count (λ count. none (is_count count)) in cc e);
+        count = λ some none. absurd (let e = sym is ∙ all.refuses.root.count (λ count. none (is_count count)) in cc e);
         long = λ frames queue b other source e. absurd (cc e);
         long_events = λ frames b other source e. absurd (cc e);
         long_read = λ e. absurd (cc e);
         memory = λ e. absurd (cc e);
         damaged = λ e. absurd (cc e);
         unfit = λ e.
-            let says = all.room.wants wanted room is in (
-              all.unwritten (why.Unfit wanted room) is (λ e. cc e),
+            let says = all.refuses.room.wants wanted room is in (
+              all.refuses.unwritten (why.Unfit wanted room) is (λ e. cc e),
               means,
               wanted,
               omega (arith, says.0, says.1),
@@ -298,7 +296,7 @@ module _ (result : Result Converted ConvertFault) (old new : DiskState) (all : I
       part = λ failed. all.part is;
       part_line = λ failed. put;
       crash_states = all.crash_states;
-      count = λ none. absurd (let e = sym is ∙ all.root.count none in cc e);
+      count = λ none. absurd (let e = sym is ∙ all.refuses.root.count none in cc e);
       no_volume = λ d revealed opened. absurd (cc opened);
       no_volume_refused = λ d f revealed none. inr (inl refl);
       no_volume_unwritten = λ d f revealed none. all.others d revealed (inl (f, none));
@@ -324,10 +322,10 @@ module _ (result : Result Converted ConvertFault) (old new : DiskState) (all : I
       count = λ none. inl refl;
       no_volume = λ d revealed opened. absurd (cc opened);
       no_volume_refused = λ d f revealed none. inr (inr refl);
-      no_volume_unwritten = λ d f revealed none. all.unwritten why.NoMemory is (λ e. cc e);
+      no_volume_unwritten = λ d f revealed none. all.refuses.unwritten why.NoMemory is (λ e. cc e);
       unfit = λ d revealed unfit. absurd (cc unfit);
       unfit_refused = λ d revealed volume none. inr (inr refl);
-      no_room_unwritten = λ d revealed none. all.unwritten why.NoMemory is (λ e. cc e);
+      no_room_unwritten = λ d revealed none. all.refuses.unwritten why.NoMemory is (λ e. cc e);
       complete = λ d revealed volume room disk_held sink_held. inr refl;
     }
 
@@ -340,7 +338,7 @@ module _ (result : Result Converted ConvertFault) (old new : DiskState) (all : I
       long = λ frames queue b other source e. absurd (cc e);
       long_events = λ frames b other source e. absurd (cc e);
       long_read = λ e. absurd (cc e);
-      memory = λ e. (all.unwritten why.NoMemory is (λ e. cc e), command.Convert, means.named);
+      memory = λ e. (all.refuses.unwritten why.NoMemory is (λ e. cc e), command.Convert, means.named);
       damaged = λ e. absurd (cc e);
       unfit = λ e. absurd (cc e);
     }

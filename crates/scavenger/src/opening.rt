@@ -1,11 +1,10 @@
 //! The root of a volume that is restored, as it is read.
-ghost use Rattle.std.specs.Prelude.{◌≡◌, ℕ, List, Some, Err, length, slice_get, false, IfOk};
+ghost use Rattle.std.specs.Prelude.{◌≡◌, List, Some, Err, length, slice_get, IfOk};
 ghost use Rattle.labelled_disk.specs.Calls.{ReadsAtMost, Rose};
-ghost use Rattle.labelled_disk.specs.Layout.{IsCount};
 ghost use Rattle.labelled_disk.specs.Root.{IsRoot, root_page};
 ghost use Rattle.labelled_disk.specs.Sectors.{Sector};
-ghost use Rattle.volume_root.specs.RootPage.{judged, root_in, IsValidRoot};
-ghost use Rattle.scavenger.specs.Opening.{Accords};
+ghost use Rattle.volume_root.specs.RootPage.{root_in, IsValidRoot};
+ghost use Rattle.scavenger.specs.Opening.{JudgesRoot};
 
 use crate::ScavengeFault;
 use labelled_disk::Disk;
@@ -13,13 +12,7 @@ use volume_root::{Root, RootFault, read_root};
 
 // The root, whether the volume was closed or not.
 pub(crate) fn read_any_root<D: Disk>(disk: &mut D) -> Result<Root, ScavengeFault>
-    ensures count { ¬ IsCount (D.state disk.old).sectors
-        → result ≡ Err (ScavengeFault.Root (RootFault.BadCount (D.state disk.old).sectors)) }
-    ensures bad_count { (n : ℕ) → result ≡ Err (ScavengeFault.Root (RootFault.BadCount n))
-        → ¬ IsCount (D.state disk.old).sectors × (n ≡ (D.state disk.old).sectors) }
-    ensures judged { IsCount (D.state disk.old).sectors → (g : List Sector)
-        → (D.state disk.old).contents ≡ Some g → (s : Sector) → slice_get g 0 ≡ Some s
-        → Accords result (judged false (length g) s) }
+    ensures judged { JudgesRoot (D.state disk.old) result }
     ensures root { (g : List Sector) → (D.state disk.old).contents ≡ Some g
         → IfOk result (λ root. (root ≡ root_in (root_page g)) × IsRoot (length g) (slice_get g 0)) }
     ensures valid { IfOk result (IsValidRoot (D.state disk.old).sectors) }

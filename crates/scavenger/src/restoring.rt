@@ -9,8 +9,8 @@ ghost use Rattle.labelled_disk.specs.Sectors.{Sector};
 ghost use Rattle.labelled_disk.specs.WriteRuns.{Appended};
 ghost use Rattle.volume_root.specs.Format.{PartMade};
 ghost use Rattle.volume_root.specs.Later.{IsLater};
-ghost use Rattle.volume_root.specs.RootPage.{judged, root_in, IsValidRoot};
-ghost use Rattle.scavenger.specs.Opening.{Accords, IsDiskOrMemory};
+ghost use Rattle.volume_root.specs.RootPage.{root_in, IsValidRoot};
+ghost use Rattle.scavenger.specs.Opening.{IsDiskOrMemory, JudgesRoot};
 ghost use Rattle.scavenger.specs.Carries.{Carries, MakesWithBarriers};
 ghost use Rattle.scavenger.specs.Plan.{orders, IsSized};
 ghost use Rattle.scavenger.specs.Orders.{Orders, AreFor, scavenge_writes};
@@ -157,18 +157,10 @@ pub fn scavenge<A: Allocator + Clone, D: Disk>(
     ensures cuts { EachCutFromFirstSync Survives (D.state disk.old) (D.state disk.new) }
 
     // The root that was read is refused.
-    ensures count { ¬ IsCount (D.state disk.old).sectors
-        → result ≡ Err (ScavengeFault.Root (RootFault.BadCount (D.state disk.old).sectors)) }
-    ensures bad_count { (n : ℕ) → result ≡ Err (ScavengeFault.Root (RootFault.BadCount n))
-        → ¬ IsCount (D.state disk.old).sectors × (n ≡ (D.state disk.old).sectors) }
-    ensures judged { IsCount (D.state disk.old).sectors → (g : List Sector)
-        → (D.state disk.old).contents ≡ Some g → (s : Sector) → slice_get g 0 ≡ Some s
-        → Accords result (judged false (length g) s) }
-    ensures refused { (why : RootFault) → result ≡ Err (ScavengeFault.Root why)
-        → OnlyReads (D.state disk.old) (D.state disk.new) }
-
-    ensures unwritten { result ≡ Err ScavengeFault.NoMemory
-        → OnlyReads (D.state disk.old) (D.state disk.new) }
+    ensures root { JudgesRoot (D.state disk.old) result }
+    ensures unwritten { ((why : RootFault) → result ≡ Err (ScavengeFault.Root why)
+        → OnlyReads (D.state disk.old) (D.state disk.new))
+        × (result ≡ Err ScavengeFault.NoMemory → OnlyReads (D.state disk.old) (D.state disk.new)) }
     ensures cause { result ≡ Err ScavengeFault.Disk
         → Rose (D.state disk.old).faults (D.state disk.new).faults }
     ensures later { IsLater (D.state disk.old) (D.state disk.new) }

@@ -4,7 +4,7 @@ use Rattle.labelled_disk.specs.State.{DiskState}
 use Rattle.frame_pool.specs.Frames.{Slots}
 use Rattle.swapper_kernel.specs.Goes.{Goes, Pages, Same}
 
--- a page of a map or of the space tables: the settled files don't rest on it
+-- a page of a map or of the space tables, or one under a free label (its number is 0): the settled files don't rest on it
 abbrev pub volume_page : Pages
 volume_page id page = id < 4
 

@@ -11,6 +11,8 @@ pub mod Sets
 pub mod Begins
 pub mod Places
 pub mod Pieces
+mod Outs
+mod SlotCases
 pub mod Rejoined
 pub mod Removes
 mod Pages

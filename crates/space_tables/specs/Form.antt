@@ -136,6 +136,13 @@ BreaksAt (Some asked) count b page = BreaksLookUp asked count b page
 abbrev pub IsOverfull : ℕ → Space → Interval → ℕ → Type 0
 IsOverfull count x i page = (page ≡ 32) × (1024 < count + length (pieces x i))
 
+-- an interval in form has all pages of a space that is to come into it
+pub record MaySplit (i : Interval) (x : Space) : Type 0 where
+  pub form : in_form i ≡ true
+  pub handle : x.handle ≤ 511
+  pub some : 1 ≤ x.pages
+  pub inside : (i.first ≤ x.first) × (end x ≤ end_of i)
+
 -- A space of so many pages, at the given first page or at the first one of a gap, would come into an interval of its parent, one
 -- of so many that were read, and make too many of them.
 pub record MakesTooMany (count : ℕ) (b : List ℕ) (parent pages : ℕ) (first : Option ℕ) (page : ℕ) : Type 0 where

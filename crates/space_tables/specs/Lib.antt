@@ -1,5 +1,6 @@
 pub mod Form
 pub mod Answer
+pub mod Looks
 pub mod Stored
 pub mod Scan
 pub mod SpaceTables

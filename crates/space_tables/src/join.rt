@@ -6,6 +6,7 @@ ghost use Rattle.projection_laws.specs.Edits.{alike, paired, paired_before, rejo
 ghost use Rattle.projection_laws.specs.Sight.{Interval};
 ghost use Rattle.space_tables.specs.Form.{BreaksProjection};
 ghost use Rattle.space_tables.specs.Answer.{FromMemory, NotRefused, IfMem, IfMalformed};
+ghost use Rattle.space_tables.specs.Looks.{Looks};
 ghost use Rattle.space_tables.specs.Change.{one_before, pages_in};
 ghost use Rattle.space_tables.specs.Stored.{HoldTables, IsReadable};
 
@@ -38,11 +39,7 @@ fn next<M: FlatMem>(
     ensures pages { IfOk result (λ o. pages_in o ≤ root_pages) }
     ensures malformed { (b : List ℕ) → M.reveals mem.old b → IfErr result (IfMalformed (BreaksProjection count b)) }
     ensures refused { IfErr result NotRefused }
-    ensures unchanged { (b : List ℕ) → M.reveals mem.old b → M.reveals mem.new b }
-    ensures kept { M.beside mem.old mem.new }
-    ensures looked { M.only_reads mem.old mem.new }
-    ensures cause { IfErr result (IfMem (M.accounted mem.old mem.new)) }
-    ensures cost { M.spent mem.new ≤ M.spent mem.old + M.cost }
+    ensures looks { Looks M.FlatMem (M.cost) mem.old mem.new result }
 {
     if index + 1 == count {
         return Ok(None);
@@ -63,11 +60,7 @@ fn previous<M: FlatMem>(mem: &mut M, index: u32) -> Result<Option<Interval>, Spa
     ensures malformed { (b : List ℕ) (count : ℕ) → M.reveals mem.old b → index < count
         → IfErr result (IfMalformed (BreaksProjection count b)) }
     ensures refused { IfErr result NotRefused }
-    ensures unchanged { (b : List ℕ) → M.reveals mem.old b → M.reveals mem.new b }
-    ensures kept { M.beside mem.old mem.new }
-    ensures looked { M.only_reads mem.old mem.new }
-    ensures cause { IfErr result (IfMem (M.accounted mem.old mem.new)) }
-    ensures cost { M.spent mem.new ≤ M.spent mem.old + M.cost }
+    ensures looks { Looks M.FlatMem (M.cost) mem.old mem.new result }
 {
     if index == 0 {
         return Ok(None);

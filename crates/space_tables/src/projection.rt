@@ -15,6 +15,7 @@ ghost use Rattle.projection_laws.specs.Stored.{bytes_of, interval_in, HoldsAt};
 ghost use Rattle.space_tables.specs.Form.{interval_record, in_form, space_in_form, BreaksLookUp};
 ghost use Rattle.swap_units.specs.Unit.{has_page};
 ghost use Rattle.space_tables.specs.Answer.{FromMemory, NotRefused, IfMem, IfMalformed};
+ghost use Rattle.space_tables.specs.Looks.{Looks};
 ghost use Rattle.space_tables.specs.Handles.{AreWithin};
 ghost use Rattle.space_tables.specs.Stored.{HoldTables, AreRight};
 
@@ -69,11 +70,7 @@ pub fn find<M: FlatMem>(
         → IfOk result (λ at. at.1 ≡ interval_in (interval_record b at.0)) }
     ensures malformed { (b : List ℕ) → M.reveals mem.old b → IfErr result (IfMalformed (BreaksLookUp page count b)) }
     ensures refused { IfErr result NotRefused }
-    ensures unchanged { (b : List ℕ) → M.reveals mem.old b → M.reveals mem.new b }
-    ensures kept { M.beside mem.old mem.new }
-    ensures looked { M.only_reads mem.old mem.new }
-    ensures cause { IfErr result (IfMem (M.accounted mem.old mem.new)) }
-    ensures cost { M.spent mem.new ≤ M.spent mem.old + 7 * M.cost }
+    ensures looks { Looks M.FlatMem (7 * M.cost) mem.old mem.new result }
 {
     let mut bytes = [0; 32];
     let index = match look_up_record(mem, count, page, &mut bytes) {

@@ -11,6 +11,7 @@ ghost use Rattle.projection_laws.specs.Stored.{interval_in};
 ghost use Rattle.projection_laws.specs.Tests.{no_place};
 ghost use Rattle.space_tables.specs.Form.{interval_record, interval_page, in_form, BreaksProjection, BreaksLookUp, BreaksAt};
 ghost use Rattle.space_tables.specs.Answer.{FromMemory, NotRefused, IfMem, IfMalformed, Replies};
+ghost use Rattle.space_tables.specs.Looks.{Looks};
 ghost use Rattle.space_tables.specs.Stored.{HoldTables, AreRight, IsReadable};
 ghost use Rattle.space_tables.specs.Scan.{ends_in, IsFirstGap};
 
@@ -179,11 +180,7 @@ fn given_room<M: FlatMem>(
     ensures read { (b : List ℕ) → M.reveals mem.old b
         → IfOk result (λ r. r.interval ≡ interval_in (interval_record b r.index)) }
     ensures malformed { (b : List ℕ) → M.reveals mem.old b → IfErr result (IfMalformed (BreaksLookUp first count b)) }
-    ensures unchanged { (b : List ℕ) → M.reveals mem.old b → M.reveals mem.new b }
-    ensures kept { M.beside mem.old mem.new }
-    ensures looked { M.only_reads mem.old mem.new }
-    ensures cause { IfErr result (IfMem (M.accounted mem.old mem.new)) }
-    ensures cost { M.spent mem.new ≤ M.spent mem.old + 7 * M.cost }
+    ensures looks { Looks M.FlatMem (7 * M.cost) mem.old mem.new result }
 {
     if first >= ROOT_PAGES {
         return Err(SpaceError::Refused(Refusal::Range));
@@ -227,11 +224,7 @@ pub fn find_room<M: FlatMem>(
     ensures read { (b : List ℕ) → M.reveals mem.old b
         → IfOk result (λ r. r.interval ≡ interval_in (interval_record b r.index)) }
     ensures malformed { (b : List ℕ) → M.reveals mem.old b → IfErr result (IfMalformed (BreaksAt first count b)) }
-    ensures unchanged { (b : List ℕ) → M.reveals mem.old b → M.reveals mem.new b }
-    ensures kept { M.beside mem.old mem.new }
-    ensures looked { M.only_reads mem.old mem.new }
-    ensures cause { IfErr result (IfMem (M.accounted mem.old mem.new)) }
-    ensures cost { M.spent mem.new ≤ M.spent mem.old + 1023 * M.cost }
+    ensures looks { Looks M.FlatMem (1023 * M.cost) mem.old mem.new result }
 {
     let Some(first) = first else {
         return match find_gap(mem, count, parent, pages)? {

@@ -3,6 +3,7 @@ ghost use Rattle.std.specs.Prelude.{◌≡◌, ℕ, ◌+◌, ◌*◌, ◌≤◌,
 ghost use Rattle.flat_machine.specs.declared.space.Space.{Space};
 ghost use Rattle.space_tables.specs.Form.{BreaksHierarchy};
 ghost use Rattle.space_tables.specs.Answer.{FromMemory, NotRefused, IfMem, IfMalformed};
+ghost use Rattle.space_tables.specs.Looks.{Looks};
 ghost use Rattle.space_tables.specs.Shows.{shows, IsFirstWith, IsShownAt};
 ghost use Rattle.space_tables.specs.Stored.{RevealSpaces};
 
@@ -31,11 +32,7 @@ pub fn showing<M: FlatMem>(
     ensures read { (b : List ℕ) → M.reveals mem.old b → IfOk result (λ o. IfSome o (λ at. IsShownAt b at.0 at.1)) }
     ensures malformed { (b : List ℕ) → M.reveals mem.old b → IfErr result (IfMalformed (BreaksHierarchy b)) }
     ensures refused { IfErr result NotRefused }
-    ensures unchanged { (b : List ℕ) → M.reveals mem.old b → M.reveals mem.new b }
-    ensures kept { M.beside mem.old mem.new }
-    ensures looked { M.only_reads mem.old mem.new }
-    ensures cause { IfErr result (IfMem (M.accounted mem.old mem.new)) }
-    ensures cost { M.spent mem.new ≤ M.spent mem.old + 512 * M.cost }
+    ensures looks { Looks M.FlatMem (512 * M.cost) mem.old mem.new result }
 {
     let handles = named_handles(mem, 0, count, &Sought::Showing(id))?;
     let Some(found) = find_space(mem, &handles, &Test::Shows(id, writable_only))? else {

@@ -4,7 +4,7 @@ ghost use Rattle.flat_machine.specs.declared.space.Space.{Space};
 ghost use Rattle.flat_machine.specs.Space.{end};
 ghost use Rattle.projection_laws.specs.Edits.{cut, inside, some_pages, pieces, replaced};
 ghost use Rattle.projection_laws.specs.Sight.{Interval, end_of};
-ghost use Rattle.space_tables.specs.Form.{in_form, IsOverfull};
+ghost use Rattle.space_tables.specs.Form.{in_form, IsOverfull, MaySplit};
 ghost use Rattle.space_tables.specs.Answer.{FromMemory, NotRefused, IfMem, IfMalformed};
 ghost use Rattle.space_tables.specs.Stored.{HoldTables};
 ghost use Rattle.space_tables.specs.Change.{put_in};
@@ -105,10 +105,7 @@ pub fn split<M: FlatMem>(
     requires size { 49152 ≤ M.size mem.old }
     requires few { count ≤ 1023 }
     requires order { index < count }
-    requires form { in_form i.now ≡ true }
-    requires handle { x.now.handle ≤ 511 }
-    requires some { 1 ≤ x.now.pages }
-    requires inside { (i.now.first ≤ x.now.first) × (end x.now ≤ end_of i.now) }
+    requires fits { MaySplit i.now x.now }
     ensures split { (slots : List (Option Space)) (xs : List Interval) → HoldTables (M.reveals mem.old) slots xs
         → length xs ≡ count → slice_get xs index ≡ Some i.now
         → IfOk result

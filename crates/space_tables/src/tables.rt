@@ -11,6 +11,7 @@ ghost use Rattle.space_tables.specs.Form.{in_form, lies_in_root, first_in_slot, 
 ghost use Rattle.swap_units.specs.Unit.{has_page};
 ghost use Rattle.space_tables.specs.Shows.{window_of, shows, IsFirstWith, IsShownAt, IsRunAt};
 ghost use Rattle.space_tables.specs.Answer.{FromMemory, NotRefused, IfMem, IfMalformed, Answers, Replies};
+ghost use Rattle.space_tables.specs.Looks.{Looks};
 ghost use Rattle.space_tables.specs.Stored.{RevealSpaces};
 
 use crate::add::add;
@@ -103,12 +104,8 @@ impl<M: FlatMem> SpaceTables<M> {
         ensures malformed { (b : List ℕ) → M.reveals (tables_memory self.old) b
             → IfErr result (IfMalformed (BreaksLookUp page (interval_count self.old) b)) }
         ensures refused { IfErr result NotRefused }
-        ensures cause { IfErr result (IfMem (M.accounted (tables_memory self.old) (tables_memory self.new))) }
-        ensures unchanged { (b : List ℕ) → M.reveals (tables_memory self.old) b → M.reveals (tables_memory self.new) b }
+        ensures looks { Looks M.FlatMem (7 * M.cost) (tables_memory self.old) (tables_memory self.new) result }
         ensures count { interval_count self.new ≡ interval_count self.old }
-        ensures kept { M.beside (tables_memory self.old) (tables_memory self.new) }
-        ensures looked { M.only_reads (tables_memory self.old) (tables_memory self.new) }
-        ensures cost { M.spent (tables_memory self.new) ≤ M.spent (tables_memory self.old) + 7 * M.cost }
     {
         if page >= ROOT_PAGES {
             return Ok(None);

@@ -1,9 +1,18 @@
 -- Pages that are brought in together.
-use Rattle.std.specs.Prelude.{◌≡◌, ℕ, ◌<◌, List, Some, slice_get}
+use Rattle.std.specs.Prelude.{◌≡◌, ℕ, ◌<◌, ◌≤◌, List, length, Some, slice_get}
+use Rattle.labelled_disk.specs.declared.layout.Layout.{Layout}
 use Rattle.labelled_disk.specs.Sectors.{Sector}
 use Rattle.frame_pool.specs.declared.home.Home.{Home}
 use Rattle.frame_pool.specs.Frames.{Slots, Frame, Has, HasPage, IsOf, IsWithin}
+use Rattle.swapper_kernel.specs.Homes.{AreFileHomes, IsRow}
 use Rattle.swapper_kernel.specs.Stands.{IsHome}
+
+-- homes of 1 to 16 pages in a row of one file, on data sectors
+pub record IsFileRun (list : List Home) (layout : Layout) : Type 0 where
+  pub some : 1 ≤ length list
+  pub few : length list ≤ 16
+  pub row : IsRow list
+  pub homes : AreFileHomes list layout
 
 -- the pages of the first n homes are in slots
 abbrev pub AreThere : Slots → List Home → ℕ → Type 0

@@ -13,6 +13,7 @@ pub mod Kinds
 pub mod Lending
 pub mod Maps
 pub mod MoveLaws
+pub mod Moves
 pub mod OnceLaws
 pub mod Stands
 pub mod StepLaws

@@ -2,10 +2,11 @@
 ghost use Rattle.std.specs.Prelude.{◌≡◌, ◌≢◌, ◌<◌, ◌≤◌, ◌+◌, ◌*◌, ℕ, false, List, [], length, Ok, Err, Some, None, IfOk, IfErr, IfSome, OnOk, OnErr, IsSome, slice_set};
 ghost use Rattle.labelled_disk.specs.declared.evidence.Halt.TheVariants as halt;
 ghost use Rattle.labelled_disk.specs.Sectors.{Sector};
-ghost use Rattle.frame_pool.specs.Frames.{Frame, Has, HasPage, IsEmpty, IsNowhere, changed, cleaned_at, frame_at};
+ghost use Rattle.frame_pool.specs.Frames.{Frame, Has, HasPage, IsNowhere, changed, cleaned_at, frame_at};
 ghost use Rattle.swapper_kernel.specs.Maps.{id_of, map_home, pages_of};
-ghost use Rattle.swapper_kernel.specs.Homes.{AreFileHomes, AreNamed, Brings, IsAmong, IsNamed, IsPlaced, IsRow, no_home};
-ghost use Rattle.swapper_kernel.specs.Bring.{AreThere, IsShown, KeepsRun};
+ghost use Rattle.swapper_kernel.specs.Homes.{AreNamed, IsAmong, IsNamed, IsPlaced, no_home};
+ghost use Rattle.swapper_kernel.specs.Bring.{AreThere, IsFileRun, IsShown, KeepsRun};
+ghost use Rattle.swapper_kernel.specs.Moves.{KeepsFrames, MayBeFilled, SwapsFor};
 ghost use Rattle.swapper_kernel.specs.Stands.{Stands, IsHome};
 ghost use Rattle.swapper_kernel.specs.Goes.{Goes, Swaps, no_page, this_page};
 ghost use Rattle.swapper_kernel.specs.Differs.{ChangesAt, Differs, of_run};
@@ -28,13 +29,8 @@ impl<D: Disk, A: Allocator> Swapper<D, A> {
         ensures sound { (m : List Sector) → Stands (D.state self.old.disk) self.old.pool m
             → IfErr result (λ e. e ≡ halt.Disk) }
         ensures cause { IfErr result (Halts no_home (D.state self.old.disk) self.old.pool (D.state self.new.disk)) }
-        ensures swaps { Swaps (D.state self.old.disk) self.old.pool (D.state self.new.disk) self.new.pool }
-        ensures steps { Steps no_home no_home (D.state self.old.disk) self.old.pool (D.state self.new.disk)
-            self.new.pool }
-        ensures frames { (i : ℕ) (f : Frame) → Has self.new.pool i f
-            → (g : Frame) × Has self.old.pool i g × (g.home ≡ f.home) × (g.bytes ≡ f.bytes) }
-        ensures empties { (i : ℕ) → IsEmpty self.new.pool i → IsEmpty self.old.pool i }
-        ensures others { (i : ℕ) (f : Frame) → i ≢ slot → Has self.old.pool i f → Has self.new.pool i f }
+        ensures moves { SwapsFor no_home (D.state self.old.disk) self.old.pool (D.state self.new.disk) self.new.pool }
+        ensures keeps { KeepsFrames slot self.old.pool self.new.pool }
         ensures idle { ((f : Frame) → Has self.old.pool slot f → f.dirty ≡ false)
             → (self.new.disk ≡ self.old.disk) × (self.new.pool ≡ self.old.pool) }
         ensures layout { self.new.layout ≡ self.old.layout }
@@ -66,19 +62,16 @@ impl<D: Disk, A: Allocator> Swapper<D, A> {
     fn load(&mut self, slot: u32, home: Home) -> Result<(), Halt>
         requires size { (D.state self.old.disk).sectors ≡ self.old.layout.sectors }
         requires below { slot < length self.old.pool }
-        requires clean { (f : Frame) → Has self.old.pool slot f → f.dirty ≡ false }
+        requires fillable { MayBeFilled self.old.pool slot }
         requires placed { IsPlaced self.old.layout home }
         requires nowhere { IsNowhere self.old.pool home.id home.page }
-        requires full { (f : Frame) → Has self.old.pool slot f → (j : ℕ) → IsEmpty self.old.pool j → ⊥ }
         ensures there { OnOk result ((f : Frame) × Has self.new.pool slot f × (f.home ≡ home)) }
         ensures sound { (m : List Sector) → Stands (D.state self.old.disk) self.old.pool m → IsNamed m home
             → IfErr result (λ e. e ≡ halt.Disk) }
         ensures cause { IfErr result
             (Halts (λ h. h ≡ home) (D.state self.old.disk) self.old.pool (D.state self.new.disk)) }
-        ensures swaps { Swaps (D.state self.old.disk) self.old.pool (D.state self.new.disk) self.new.pool }
-        ensures steps { Steps (λ h. h ≡ home) no_home (D.state self.old.disk) self.old.pool (D.state self.new.disk)
+        ensures moves { SwapsFor (λ h. h ≡ home) (D.state self.old.disk) self.old.pool (D.state self.new.disk)
             self.new.pool }
-        ensures brings { Brings (λ h. h ≡ home) self.old.pool self.new.pool }
         ensures others { (i : ℕ) (f : Frame) → i ≢ slot → Has self.old.pool i f → Has self.new.pool i f }
         ensures layout { self.new.layout ≡ self.old.layout }
         ensures cost { (D.state self.new.disk).transfers ≤ (D.state self.old.disk).transfers + 1 }
@@ -114,10 +107,8 @@ impl<D: Disk, A: Allocator> Swapper<D, A> {
             → IfErr result (λ e. e ≡ halt.Disk) }
         ensures cause { IfErr result
             (Halts (λ h. h ≡ home) (D.state self.old.disk) self.old.pool (D.state self.new.disk)) }
-        ensures swaps { Swaps (D.state self.old.disk) self.old.pool (D.state self.new.disk) self.new.pool }
-        ensures steps { Steps (λ h. h ≡ home) no_home (D.state self.old.disk) self.old.pool (D.state self.new.disk)
+        ensures moves { SwapsFor (λ h. h ≡ home) (D.state self.old.disk) self.old.pool (D.state self.new.disk)
             self.new.pool }
-        ensures brings { Brings (λ h. h ≡ home) self.old.pool self.new.pool }
         ensures stays { KeepsRun self.old.pool self.new.pool home.id keep_first keep_pages }
         ensures idle { (i : ℕ) → HasPage self.old.pool i home.id home.page
             → (self.new.disk ≡ self.old.disk) × (self.new.pool ≡ self.old.pool) }
@@ -156,10 +147,8 @@ impl<D: Disk, A: Allocator> Swapper<D, A> {
         ensures cause { IfErr result
             (Halts (λ h. h ≡ map_home which self.old.layout page) (D.state self.old.disk) self.old.pool
             (D.state self.new.disk)) }
-        ensures swaps { Swaps (D.state self.old.disk) self.old.pool (D.state self.new.disk) self.new.pool }
-        ensures steps { Steps (λ h. h ≡ map_home which self.old.layout page) no_home (D.state self.old.disk)
+        ensures moves { SwapsFor (λ h. h ≡ map_home which self.old.layout page) (D.state self.old.disk)
             self.old.pool (D.state self.new.disk) self.new.pool }
-        ensures brings { Brings (λ h. h ≡ map_home which self.old.layout page) self.old.pool self.new.pool }
         ensures idle { (i : ℕ) → HasPage self.old.pool i (id_of which) page
             → (self.new.disk ≡ self.old.disk) × (self.new.pool ≡ self.old.pool) }
         ensures layout { self.new.layout ≡ self.old.layout }
@@ -173,10 +162,7 @@ impl<D: Disk, A: Allocator> Swapper<D, A> {
     /// data sectors. A page that is resident already keeps its frame and its home, whatever home is given for it.
     pub fn bring(&mut self, homes: &[Home]) -> Result<(), Halt>
         requires size { (D.state self.old.disk).sectors ≡ self.old.layout.sectors }
-        requires some { 1 ≤ length homes.now }
-        requires few { length homes.now ≤ 16 }
-        requires row { IsRow homes.now }
-        requires homes { AreFileHomes homes.now self.old.layout }
+        requires run { IsFileRun homes.now self.old.layout }
         ensures there { OnOk result (AreThere self.new.pool homes.now (length homes.now)) }
         ensures pages { (m : List Sector) → Stands (D.state self.old.disk) self.old.pool m
             → OnOk result ((h : Home) → IsAmong homes.now h → IsShown self.new.pool m h) }
@@ -184,10 +170,8 @@ impl<D: Disk, A: Allocator> Swapper<D, A> {
             → AreNamed m (IsAmong homes.now) → IfErr result (λ e. e ≡ halt.Disk) }
         ensures cause { IfErr result
             (Halts (IsAmong homes.now) (D.state self.old.disk) self.old.pool (D.state self.new.disk)) }
-        ensures swaps { Swaps (D.state self.old.disk) self.old.pool (D.state self.new.disk) self.new.pool }
-        ensures steps { Steps (IsAmong homes.now) no_home (D.state self.old.disk) self.old.pool (D.state self.new.disk)
+        ensures moves { SwapsFor (IsAmong homes.now) (D.state self.old.disk) self.old.pool (D.state self.new.disk)
             self.new.pool }
-        ensures brings { Brings (IsAmong homes.now) self.old.pool self.new.pool }
         ensures idle { AreThere self.old.pool homes.now (length homes.now)
             → (D.state self.new.disk ≡ D.state self.old.disk) × (self.new.pool ≡ self.old.pool) }
         ensures layout { self.new.layout ≡ self.old.layout }

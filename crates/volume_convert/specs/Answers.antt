@@ -1,5 +1,5 @@
 -- How the answers of a conversion accord with how its root is judged, and with the room that there is.
-use Rattle.std.specs.Prelude.{◌≡◌, ◌⊎◌, ◌<◌, ◌≤◌, ℕ, List, length, slice_get, Some, Result, Ok, Err, OnOk}
+use Rattle.std.specs.Prelude.{◌≡◌, ◌≢◌, ◌⊎◌, ◌<◌, ◌≤◌, ℕ, List, length, slice_get, Some, Result, Ok, Err, OnOk}
 use Rattle.labelled_disk.specs.declared.layout.RootFault.{RootFault}
 use Rattle.labelled_disk.specs.declared.layout.RootFault.TheVariants as fault
 use Rattle.labelled_disk.specs.Calls.{OnlyReads}
@@ -36,6 +36,12 @@ pub record JudgesRoom {T : Type 0} (disk : DiskState) (result : Result T Convert
   pub unfit : (wanted room : ℕ) → result ≡ Err (why.Unfit wanted room) → (d : List Sector) → disk.contents ≡ Some d
       → wanted ≡ total_room (files_old d)
   pub fits : (d : List Sector) → disk.contents ≡ Some d → OnOk result (total_room (files_old d) ≤ capacity (length d))
+
+-- The root is refused, or the files have no room; nothing is written but where it answers Ok or the disk failed.
+pub record Refuses {T : Type 0} (old new : DiskState) (result : Result T ConvertFault) : Type 0 where
+  pub root : JudgesRoot old result
+  pub room : JudgesRoom old result
+  pub unwritten : (fault : ConvertFault) → result ≡ Err fault → fault ≢ why.Disk → OnlyReads old new
 
 -- these sectors have no old volume, and this is why
 abbrev pub IsNoOldVolume : List Sector → RootFault → Type 0

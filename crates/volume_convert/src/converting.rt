@@ -8,7 +8,7 @@ ghost use Rattle.volume_root.specs.Later.{IsLater};
 ghost use Rattle.volume_root.specs.OldRoot.{IsValidOldRoot};
 ghost use Rattle.volume_root.specs.RootPage.{root_in};
 ghost use Rattle.scavenger.specs.Carries.{Carries};
-ghost use Rattle.volume_convert.specs.Answers.{JudgesRoom, JudgesRoot, LeavesOthers};
+ghost use Rattle.volume_convert.specs.Answers.{JudgesRoom, JudgesRoot, LeavesOthers, Refuses};
 ghost use Rattle.volume_convert.specs.Leaves.{AreMade, ArePartMade, CostsAtMost, IsConverted, IsRevealed, StaysConvertible};
 ghost use Rattle.volume_convert.specs.Planned.{all_writes, IsFit, IsPlannedFor};
 
@@ -136,10 +136,7 @@ pub fn convert<A: Allocator + Clone, D: Disk>(
 
     // The root is refused, or the files have no room; nothing is written but where it answers Ok or
     // the disk failed.
-    ensures root { JudgesRoot (D.state disk.old) result }
-    ensures room { JudgesRoom (D.state disk.old) result }
-    ensures unwritten { (why : ConvertFault) → result ≡ Err why → why ≢ ConvertFault.Disk
-        → OnlyReads (D.state disk.old) (D.state disk.new) }
+    ensures refuses { Refuses (D.state disk.old) (D.state disk.new) result }
     ensures others { LeavesOthers (D.state disk.old) (D.state disk.new) }
 
     ensures cause { result ≡ Err ConvertFault.Disk

@@ -14,7 +14,7 @@ use Rattle.labelled_disk.specs.Layout.{layout_of}
 use Rattle.labelled_disk.specs.Root.{IsRoot, number_at}
 use Rattle.labelled_disk.specs.Sectors.{Sector, free_label, zero_sector}
 use Rattle.labelled_disk.specs.State.{DiskState}
-use Rattle.labelled_disk.specs.WriteRuns.{after_writes}
+use Rattle.labelled_disk.specs.WriteRuns.{after_writes, Appended}
 use Rattle.labelled_disk.proofs.WriteRunLemmas.{after_writes-append, crash_state-earlier, crash_state-end}
 use Rattle.cut_words.specs.Barriers.{HasBarriers}
 use Rattle.cut_words.specs.Between.{IsCutBetween}
@@ -24,7 +24,7 @@ use Rattle.cut_words.proofs.NumberLemmas.{number_same, prefix_same}
 use Rattle.cut_words.proofs.OneWriteLemmas.{IsMixed, one_sector}
 use Rattle.cut_words.proofs.UnitLemmas.{same_units}
 use Rattle.volume_root.specs.declared.root.Root.{Root}
-use Rattle.volume_root.specs.Format.{format_writes, formatted, new_root, new_sector, new_sectors, new_writes, volume_writes, IsNoneOrNew}
+use Rattle.volume_root.specs.Format.{format_writes, formatted, new_root, new_sector, new_sectors, new_writes, volume_writes, IsNoneOrNew, PartMade}
 use Rattle.volume_root.specs.RootPage.{root_bytes, root_write}
 use Rattle.volume_root.proofs.Filling.{filled, advance, complete}
 use Rattle.volume_root.proofs.NewSectors.{at_root}
@@ -198,6 +198,12 @@ module _ (writes : List DiskWrite) (a c : DiskState) (serial counter : ℕ) (sam
       ∙ ap (option_map (after_writes (format_writes a.sectors serial counter))) revealed
       ∙ ap (λ (e : List Sector). Some e) (volume_made a.sectors serial counter d (whole d revealed))
       ∙ ap (λ (n : ℕ). Some (formatted n serial counter)) (sym (whole d revealed))
+
+  pub made_all : HasBarriers writes (length writes) a c → Appended (format_writes a.sectors serial counter) a c
+  made_all has = subst (λ (ws : List DiskWrite). Appended ws a c) (take_all (length writes) writes (omega arith) ∙ same) has.appended
+
+  pub made_part : (made : ℕ) → HasBarriers writes made a c → PartMade (format_writes a.sectors serial counter) a c
+  made_part made has = subst (λ (ws : List DiskWrite). PartMade ws a c) same (made, has.few, has.appended)
 
   pub cuts_made : (made : ℕ) → HasBarriers writes made a c → (d e : List Sector) (s k : ℕ) → IsCutBetween a c d s k e → (1 ≤ s) ⊎ (2 ≤ k) → IsNoneOrNew a.sectors serial counter e
   cuts_made made has d e s k cut from =

@@ -1,12 +1,13 @@
 -- A new volume: what each of its sectors holds.
-use Rattle.std.specs.Prelude.{◌≡◌, ◌⊎◌, ℕ, ◌≤◌, ◌++◌, length, take, ◌-◌, ◌*◌, min, true, ◌==◌, nat_le, nat_lt, if◌then◌else◌, List, [], ◌∷◌, map, replicate, slice_get, slice_index, slice_set}
+use Rattle.std.specs.Prelude.{◌≡◌, ◌⊎◌, ℕ, ◌≤◌, ◌++◌, length, take, ◌-◌, ◌*◌, min, true, ◌==◌, nat_le, nat_lt, if◌then◌else◌, Result, Err, List, [], ◌∷◌, map, replicate, slice_get, slice_index, slice_set}
 use Rattle.std.specs.List.{range_with_len}
 use Rattle.labelled_disk.specs.declared.disk.DiskWrite.{DiskWrite}
 use Rattle.labelled_disk.specs.declared.disk.DiskWrite.TheVariants.{Whole}
 use Rattle.labelled_disk.specs.declared.layout.Layout.{Layout}
 use Rattle.labelled_disk.specs.declared.layout.RootFault.{RootFault}
 use Rattle.labelled_disk.specs.declared.layout.RootFault.TheVariants as fault
-use Rattle.labelled_disk.specs.Layout.{layout_of}
+use Rattle.labelled_disk.specs.Calls.{OnlyReads}
+use Rattle.labelled_disk.specs.Layout.{IsCount, layout_of}
 use Rattle.labelled_disk.specs.Root.{IsRoot}
 use Rattle.labelled_disk.specs.Sectors.{Sector, zero_sector}
 use Rattle.labelled_disk.specs.State.{DiskState}
@@ -72,6 +73,12 @@ abbrev pub IsFormatFault : RootFault → Type 0
 IsFormatFault fault.Disk = Unit {0}
 IsFormatFault (fault.BadCount n) = Unit {0}
 IsFormatFault why = ⊥
+
+-- a count of sectors that no volume has is refused, and no other count is; nothing is written then
+pub record JudgesCount {T : Type 0} (old new : DiskState) (result : Result T RootFault) : Type 0 where
+  pub refused : ¬ IsCount old.sectors → result ≡ Err (fault.BadCount old.sectors)
+  pub bad_count : (n : ℕ) → result ≡ Err (fault.BadCount n) → ¬ IsCount old.sectors × (n ≡ old.sectors)
+  pub unwritten : ¬ IsCount old.sectors → OnlyReads old new
 
 -- no root that is accepted stands there, or it is the new volume
 abbrev pub IsNoneOrNew : ℕ → ℕ → ℕ → List Sector → Type 0

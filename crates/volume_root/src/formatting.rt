@@ -7,7 +7,7 @@ ghost use Rattle.labelled_disk.specs.Calls.{OnlyReads, Rose, Syncs, Writes};
 ghost use Rattle.labelled_disk.specs.Layout.{IsCount, layout_of};
 ghost use Rattle.labelled_disk.specs.Sectors.{Sector, zero_sector};
 ghost use Rattle.labelled_disk.specs.WriteRuns.{Appended};
-ghost use Rattle.volume_root.specs.Format.{format_writes, formatted, IsFormatFault, IsNoneOrNew, PartMade};
+ghost use Rattle.volume_root.specs.Format.{format_writes, formatted, IsFormatFault, IsNoneOrNew, JudgesCount, PartMade};
 ghost use Rattle.volume_root.specs.Format.{new_sector, sector_writes, volume_writes};
 ghost use Rattle.volume_root.specs.Format.{used_byte, used_page};
 ghost use Rattle.volume_root.specs.Later.{IsLater};
@@ -166,13 +166,7 @@ pub fn format<D: Disk>(disk: &mut D, serial: u32, counter: u32) -> Result<Layout
     ensures cuts { EachCutFromFirstSync (λ d e. IsNoneOrNew (D.state disk.old).sectors serial counter e)
         (D.state disk.old) (D.state disk.new) }
 
-    // A count of sectors that no volume has.
-    ensures count { ¬ IsCount (D.state disk.old).sectors
-        → result ≡ Err (RootFault.BadCount (D.state disk.old).sectors) }
-    ensures bad_count { (n : ℕ) → result ≡ Err (RootFault.BadCount n)
-        → ¬ IsCount (D.state disk.old).sectors × (n ≡ (D.state disk.old).sectors) }
-    ensures unwritten { ¬ IsCount (D.state disk.old).sectors
-        → OnlyReads (D.state disk.old) (D.state disk.new) }
+    ensures count { JudgesCount (D.state disk.old) (D.state disk.new) result }
 
     // The disk failed.
     ensures part { result ≡ Err RootFault.Disk

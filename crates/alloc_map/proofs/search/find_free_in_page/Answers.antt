@@ -1,4 +1,4 @@
-use Rattle.std.proofs.Common.{◌≡◌, ℕ, ◌+◌, ◌-◌, ◌*◌, ◌/◌, ◌%◌, ◌<◌, ◌≤◌, true, false, arith, ◌∙◌, ap}
+use Rattle.std.proofs.Common.{◌≡◌, ℕ, ◌+◌, ◌-◌, ◌*◌, ◌/◌, ◌%◌, ◌<◌, true, false, arith, ◌∙◌, ap}
 use Rattle.flat_mem.specs.Memory.{part}
 use Rattle.alloc_map.proofs.PageLemmas.{all_in_page, found_in_page}
 use Rattle.alloc_map.proofs.SearchLemmas.{found_on, found_back, found_none}

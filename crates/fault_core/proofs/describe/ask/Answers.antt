@@ -28,4 +28,4 @@ returns-clause-same g c =
     let now = c.describe.new.self.mem.filer.now in
     lent (λ d s x k. (b : List ℕ) → TablesAre (view_of c.args.filer.now) b → TablesReveal d s x k b) _ (view_of now).disk _ (view_of now).slots _ (view_of now).layout _ now.runs
     (search rules) (search rules) (search rules) (search rules)
-    (λ b reveals. c.describe.ensures.unchanged b (rw (c.over-tables.ensures.memory, c.table_memory.ensures.value) reveals))
+    (λ b reveals. c.describe.ensures.looks.unchanged b (rw (c.over-tables.ensures.memory, c.table_memory.ensures.value) reveals))

@@ -8,7 +8,7 @@ use Rattle.fault_core.proofs.kill.discard_shown.Goals as goal
 pub returns-clause-left : goal.returns-clause-left
 returns-clause-left g c =
     let v = view_of c.args.filer.now in
-    let x : View = view_of {D = g.row.D.Denot} {A = g.row.A.Denot} {G = g.D.Disk} (record c.args.filer.now { swapper = c.discard.new.swapper }) in
+    let x : View = view_of {D = g.row.D.Denot} {A = g.row.A.Denot} {G = g.D.Disk} (record c.args.filer.now { swapper = c.discard.new.memory }) in
     forgot_leaves v x (accepted c.args.filer.now) c.args.x.now.id (file_page c.args.x.now c.args.page) (c.args.next - c.args.page) (c.requires.shows.shows.formed.shows c.requires.shows.shows.mapped).0 (placed c.args.filer.now)
     (ap g.D.Disk.state (rw c.swapper_over.ensures.value at c.discard.ensures.disk)) (rw c.swapper_over.ensures.value at c.discard.ensures.layout) refl
     (rw c.swapper_over.ensures.value at c.discard.ensures.left) (rw c.swapper_over.ensures.value at c.discard.ensures.run) (rw c.swapper_over.ensures.value at c.discard.ensures.goes)
@@ -17,7 +17,7 @@ returns-clause-left g c =
 pub returns-clause-touches : goal.returns-clause-touches
 returns-clause-touches g c =
     let v = view_of c.args.filer.now in
-    let x : View = view_of {D = g.row.D.Denot} {A = g.row.A.Denot} {G = g.D.Disk} (record c.args.filer.now { swapper = c.discard.new.swapper }) in
+    let x : View = view_of {D = g.row.D.Denot} {A = g.row.A.Denot} {G = g.D.Disk} (record c.args.filer.now { swapper = c.discard.new.memory }) in
     forgot_touches v x (accepted c.args.filer.now) c.args.x.now.id (file_page c.args.x.now c.args.page) (c.args.next - c.args.page) (c.requires.shows.shows.formed.shows c.requires.shows.shows.mapped).0 (placed c.args.filer.now)
     (ap g.D.Disk.state (rw c.swapper_over.ensures.value at c.discard.ensures.disk)) (rw c.swapper_over.ensures.value at c.discard.ensures.layout) refl
     (rw c.swapper_over.ensures.value at c.discard.ensures.left) (rw c.swapper_over.ensures.value at c.discard.ensures.run) (rw c.swapper_over.ensures.value at c.discard.ensures.goes)

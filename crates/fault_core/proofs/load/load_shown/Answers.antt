@@ -144,3 +144,21 @@ returns-clause-idle g c = λ first last.
     let whole : IsWhole (view_of c.load_in-2.new.filer).slots c.args.last.now (c.args.address / 512 + 1) = rw (one.1, page) last in
     let two = c.load_in-3.ensures.idle whole in
     (two.0, two.1 ∙ one.1)
+
+pub returns-then-into-room-clause-idle : goal.returns-then-into-room-clause-idle
+returns-then-into-room-clause-idle g c = λ first last. c.load_in.ensures.idle first
+
+pub returns-then-into-room-clause-cost : goal.returns-then-into-room-clause-cost
+returns-then-into-room-clause-cost g c = omega (arith, c.load_in.ensures.cost)
+
+pub returns-in-Err-clause-whole : goal.returns-in-Err-clause-whole
+returns-in-Err-clause-whole g c = tt
+
+pub returns-in-Err-clause-idle : goal.returns-in-Err-clause-idle
+returns-in-Err-clause-idle g c = λ first last. c.in-Err.ensures.idle first
+
+pub returns-in-Err-clause-cost : goal.returns-in-Err-clause-cost
+returns-in-Err-clause-cost g c = omega (arith, c.load_in-2.ensures.cost)
+
+pub returns-clause-cost : goal.returns-clause-cost
+returns-clause-cost g c = omega (arith, c.load_in-2.ensures.cost, c.load_in-3.ensures.cost)

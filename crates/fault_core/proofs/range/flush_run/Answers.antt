@@ -9,7 +9,7 @@ returns-clause-sound g c = λ m named b known. (rw c.swapper_over.ensures.value 
 
 pub returns-clause-reaches : goal.returns-clause-reaches
 returns-clause-reaches g c =
-    let now = c.flush.new.swapper in
+    let now = c.flush.new.memory in
     let x : View = record { disk = g.D.Disk.state now.disk; slots = now.pool; layout = now.layout; runs = c.args.filer.now.runs } in
     write_back_reaches (view_of c.args.filer.now) x (accepted c.args.filer.now) (rw c.swapper_over.ensures.value at c.flush.ensures.swaps) (rw c.swapper_over.ensures.value at c.flush.ensures.run).frames (rw c.swapper_over.ensures.value at c.flush.ensures.layout) refl
 

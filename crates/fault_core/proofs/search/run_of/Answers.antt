@@ -24,20 +24,20 @@ pub returns-clause-cause : goal.returns-clause-cause
 returns-clause-cause g c =
     let v = view_of c.count_frames.new.filer in
     let w = view_of c.find.new.self in
-    rw (← c.count_frames.ensures.same) (err_wider c.find.result (MapHalts v.layout v.disk v.slots w.disk) (ReachHalts no_break v w) (map_halt v w no_break) c.find.ensures.cause)
+    rw (← c.count_frames.ensures.same) (err_wider c.find.result (MapHalts v.layout v.disk v.slots w.disk) (ReachHalts no_break v w) (map_halt v w no_break) c.find.ensures.fails.cause)
 
 pub returns-clause-sound : goal.returns-clause-sound
 returns-clause-sound g c = λ m named b known.
     let k : Known (view_of c.count_frames.new.filer) m named b = rw c.count_frames.ensures.same known in
-    c.find.ensures.sound m named k.stands k.map k.map_labels
+    c.find.ensures.fails.sound m named k.stands k.map k.map_labels
 
 pub returns-clause-brings : goal.returns-clause-brings
 returns-clause-brings g c = record {
   reaches =
       rw (← c.count_frames.ensures.same) (reaches_map (view_of c.count_frames.new.filer) (view_of c.find.new.self) (accepted c.count_frames.new.filer) (rw c.count_frames.ensures.same c.requires.size)
       (g.met.D.Disk.whole (disk_of c.count_frames.new.filer)) (g.met.D.Disk.in_form (disk_of c.count_frames.new.filer)) (rw c.count_frames.ensures.same c.count_frames.ensures.pages)
-      c.find.ensures.beside c.find.ensures.same_bytes c.find.ensures.runs_given c.find.ensures.runs_are);
-  came = rw (← c.count_frames.ensures.same) (own_map (view_of c.count_frames.new.filer) (view_of c.find.new.self) c.find.ensures.beside);
-  room = rw (← c.count_frames.ensures.same) (steps_room c.find.ensures.beside.steps);
-  stay = rw (← c.count_frames.ensures.same) (map_yields (view_of c.count_frames.new.filer).layout c.find.ensures.beside.steps);
+      c.find.ensures.leaves.beside c.find.ensures.leaves.same_bytes c.find.ensures.keeps.runs_given c.find.ensures.keeps.runs_are);
+  came = rw (← c.count_frames.ensures.same) (own_map (view_of c.count_frames.new.filer) (view_of c.find.new.self) c.find.ensures.leaves.beside);
+  room = rw (← c.count_frames.ensures.same) (steps_room c.find.ensures.leaves.beside.steps);
+  stay = rw (← c.count_frames.ensures.same) (map_yields (view_of c.count_frames.new.filer).layout c.find.ensures.leaves.beside.steps);
 }

@@ -57,3 +57,15 @@ returns-clause-idle g c = λ whole.
     let same : (view_of c.change_in.new.filer).disk ≡ (view_of c.touch.new.filer).disk = ap g.D.Disk.state c.change_in.ensures.disk in
     let stays : KeepsResident (view_of c.touch.new.filer).slots (view_of c.change_in.new.filer).slots = λ id page there. (there.0, c.change_in.ensures.slots there.0 id page there.1) in
     (refl, rw (← one.1) same, rw (← one.1) stays)
+
+pub returns-in-Err-clause-whole : goal.returns-in-Err-clause-whole
+returns-in-Err-clause-whole g c = tt
+
+pub returns-in-Err-clause-fails : goal.returns-in-Err-clause-fails
+returns-in-Err-clause-fails g c = record { cause = c.in-Err.ensures.fails.cause; misses = c.in-Err.ensures.fails.misses; sound = c.in-Err.ensures.fails.sound }
+
+pub returns-in-Err-clause-cost : goal.returns-in-Err-clause-cost
+returns-in-Err-clause-cost g c = c.touch.ensures.cost
+
+pub returns-clause-fails : goal.returns-clause-fails
+returns-clause-fails g c = record { cause = tt; misses = tt; sound = λ m named b known stored. tt }

@@ -158,3 +158,21 @@ returns-clause-idle g c = λ first last.
     let was : IsWhole (view_of c.args.filer.now).slots c.args.last.now (c.args.address / 512 + 1) = rw page last in
     let two = c.store_in-3.ensures.idle (λ other own. one.2 c.args.last.now.id (file_page c.args.last.now other) (was other own)) in
     (two.0, two.1 ∙ one.1)
+
+pub returns-then-bytes-room-clause-idle : goal.returns-then-bytes-room-clause-idle
+returns-then-bytes-room-clause-idle g c = λ first last. let one = c.store_in.ensures.idle first in (one.0, one.1)
+
+pub returns-then-bytes-room-clause-cost : goal.returns-then-bytes-room-clause-cost
+returns-then-bytes-room-clause-cost g c = omega (arith, c.store_in.ensures.cost)
+
+pub returns-in-Err-clause-whole : goal.returns-in-Err-clause-whole
+returns-in-Err-clause-whole g c = tt
+
+pub returns-in-Err-clause-idle : goal.returns-in-Err-clause-idle
+returns-in-Err-clause-idle g c = λ first last. let one = c.in-Err.ensures.idle first in (one.0, one.1)
+
+pub returns-in-Err-clause-cost : goal.returns-in-Err-clause-cost
+returns-in-Err-clause-cost g c = omega (arith, c.store_in-2.ensures.cost)
+
+pub returns-clause-cost : goal.returns-clause-cost
+returns-clause-cost g c = omega (arith, c.store_in-2.ensures.cost, c.store_in-3.ensures.cost)

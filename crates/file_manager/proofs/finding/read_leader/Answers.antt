@@ -21,7 +21,7 @@ returns-then-not-names-clause-sound g c = λ m stands one.
     absurd (true≢false (sym named ∙ other))
 
 pub returns-in-Err-clause-evidence_seen : goal.returns-in-Err-clause-evidence_seen
-returns-in-Err-clause-evidence_seen g c = λ may. fault_shows (g.D.Disk.state c.read_label.new.swapper.disk) c.in-Err.halt ((rw c.swapper_over-swapper.ensures.value at c.in-Err.ensures.cause).0)
+returns-in-Err-clause-evidence_seen g c = λ may. fault_shows (g.D.Disk.state c.read_label.new.memory.disk) c.in-Err.halt ((rw c.swapper_over-swapper.ensures.value at c.in-Err.ensures.cause).0)
 
 pub returns-then-not-names-clause-evidence_seen : goal.returns-then-not-names-clause-evidence_seen
 returns-then-not-names-clause-evidence_seen g c = λ may.
@@ -42,7 +42,7 @@ returns-clause-keeps_to g c = λ o named k.
 
 pub returns-in-Err-clause-reasons : goal.returns-in-Err-clause-reasons
 returns-in-Err-clause-reasons g c = λ o named k led.
-    fault_reason o (view_of c.args.filer.now).layout (g.D.Disk.state c.read_label.new.swapper.disk) c.in-Err.halt ((rw c.swapper_over-swapper.ensures.value at c.in-Err.ensures.cause).0)
+    fault_reason o (view_of c.args.filer.now).layout (g.D.Disk.state c.read_label.new.memory.disk) c.in-Err.halt ((rw c.swapper_over-swapper.ensures.value at c.in-Err.ensures.cause).0)
 
 pub returns-then-not-names-clause-reasons : goal.returns-then-not-names-clause-reasons
 returns-then-not-names-clause-reasons g c = λ o named k led.

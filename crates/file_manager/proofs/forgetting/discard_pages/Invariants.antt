@@ -5,5 +5,5 @@ use Rattle.file_manager.proofs.forgetting.discard_pages.Given as goal
 -- the frames of the pages up to this one are given up
 abbrev pub invariant-loop-page : goal.invariant-loop-page
 invariant-loop-page g l =
-    Forgets l.fn.id l.fn.first l.page l.fn.swapper.layout (g.D.Disk.state l.fn.swapper.disk) l.fn.swapper.pool l.swapper.pool
-    × (l.swapper.disk ≡ l.fn.swapper.disk) × (l.swapper.layout ≡ l.fn.swapper.layout)
+    Forgets l.fn.id l.fn.first l.page l.fn.memory.layout (g.D.Disk.state l.fn.memory.disk) l.fn.memory.pool l.memory.pool
+    × (l.memory.disk ≡ l.fn.memory.disk) × (l.memory.layout ≡ l.fn.memory.layout)

@@ -59,14 +59,23 @@ pub returns-in-Err-label_run-clause-writes : goal.returns-in-Err-label_run-claus
 returns-in-Err-label_run-clause-writes g c =
     stopped_labels (record { id = c.args.id; first = c.args.page; pages = c.in-Ok.taken.1; sector = c.in-Ok.taken.0 }) c.args.kind c.in-Ok.ensures.stays.kept c.in-Err-label_run.ensures.stays.frames c.args.most c.in-Ok.ensures.form.few c.in-Err-label_run.ensures.writes
 
+pub take_run-requires-clause-some : goal.take_run-requires-clause-some
+take_run-requires-clause-some g c = c.requires.to_make.pages.0
+
+pub label_run-requires-clause-numbers : goal.label_run-requires-clause-numbers
+label_run-requires-clause-numbers g c =
+    let fits = c.requires.to_make.pages.1 in
+    let few = c.in-Ok.ensures.form.few in
+    omega (arith, fits, few)
+
 pub label_run-requires-clause-of_file : goal.label_run-requires-clause-of_file
-label_run-requires-clause-of_file g c = fewer_of_file c.args.id c.args.kind c.args.page c.args.most c.in-Ok.taken.1 c.in-Ok.ensures.form.few c.requires.of_file
+label_run-requires-clause-of_file g c = fewer_of_file c.args.id c.args.kind c.args.page c.args.most c.in-Ok.taken.1 c.in-Ok.ensures.form.few c.requires.to_make.of_file
 
 pub add-requires-clause-form : goal.add-requires-clause-form
 add-requires-clause-form g c =
     let lay = c.in-Ok-label_run.ensures.stays.layout ∙ c.in-Ok.ensures.stays.kept.layout in
     subst (λ (l : Layout). IsRun l.sectors (record { id = c.args.id; first = c.args.page; pages = c.in-Ok.taken.1; sector = c.in-Ok.taken.0 })) (sym lay)
-    (run_in_form (view_of c.args.filer.now).layout c.args.id c.args.page c.args.most c.in-Ok.taken (accepted c.args.filer.now) c.in-Ok.ensures.form (above_maps c.args.id c.args.kind c.args.page c.args.most c.requires.of_file) c.ranges.id.fits c.requires.pages.1)
+    (run_in_form (view_of c.args.filer.now).layout c.args.id c.args.page c.args.most c.in-Ok.taken (accepted c.args.filer.now) c.in-Ok.ensures.form (above_maps c.args.id c.args.kind c.args.page c.args.most c.requires.to_make.of_file) c.ranges.id.fits c.requires.to_make.pages.1)
 
 pub returns-in-Err-add-clause-made : goal.returns-in-Err-add-clause-made
 returns-in-Err-add-clause-made g c = λ tables x shapes spaces books hidden unowned some.
@@ -129,7 +138,7 @@ returns-clause-run g c =
     let beside = rw (frames, lay) at c.in-Ok-add.ensures.beside in
     let added = rw (frames, lay) at c.in-Ok-add.ensures.added in (
       record {
-        form = run_in_form (view_of c.args.filer.now).layout c.args.id c.args.page c.args.most c.in-Ok.taken (accepted c.args.filer.now) c.in-Ok.ensures.form (above_maps c.args.id c.args.kind c.args.page c.args.most c.requires.of_file) c.ranges.id.fits c.requires.pages.1;
+        form = run_in_form (view_of c.args.filer.now).layout c.args.id c.args.page c.args.most c.in-Ok.taken (accepted c.args.filer.now) c.in-Ok.ensures.form (above_maps c.args.id c.args.kind c.args.page c.args.most c.requires.to_make.of_file) c.ranges.id.fits c.requires.to_make.pages.1;
         same_id = refl;
         same_first = refl;
         few = c.in-Ok.ensures.form.few;
@@ -210,7 +219,7 @@ returns-in-Err-clause-fails g c = record {
   cause =
       let layout = (view_of c.args.filer.now).layout in
       let pages = λ (p : ℕ). (c.args.page ≤ p) × (p < c.args.page + c.args.most) in
-      take_halts layout c.args.id pages pages c.args.page (let some = c.requires.pages.0 in (omega arith, omega (arith, some))) (view_of c.args.filer.now).disk (view_of c.take_run.new.filer).disk (view_of c.args.filer.now).slots (view_of c.take_run.new.filer).slots c.in-Err.halt c.in-Err.ensures.fails.cause;
+      take_halts layout c.args.id pages pages c.args.page (let some = c.requires.to_make.pages.0 in (omega arith, omega (arith, some))) (view_of c.args.filer.now).disk (view_of c.take_run.new.filer).disk (view_of c.args.filer.now).slots (view_of c.take_run.new.filer).slots c.in-Err.halt c.in-Err.ensures.fails.cause;
   counted = search rules;
   evidence_seen = search rules;
 }

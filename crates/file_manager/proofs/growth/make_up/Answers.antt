@@ -1,4 +1,4 @@
-use Rattle.std.proofs.Common.{rules, ◌≡◌, ◌<◌, ◌≤◌, arith}
+use Rattle.std.proofs.Common.{rules, inr, ◌≡◌, ◌<◌, ◌≤◌, arith}
 use Rattle.file_manager.specs.TabledLaws.{file_untold}
 use Rattle.file_manager.proofs.UpTo.{up_all, up_cause, up_cost, up_none, up_more, up_sound, up_stopped}
 use Rattle.file_manager.proofs.GrowBroken.{up_broken}
@@ -11,6 +11,12 @@ use Rattle.filer_kernel.specs.View.{accepted, view_of}
 
 pub loop-page-init : goal.loop-page-init
 loop-page-init g c = up_none _ _ _ _ _ _ _ _ c.requires.order c.requires.size
+
+pub make_run-requires-clause-to_make : goal.make_run-requires-clause-to_make
+make_run-requires-clause-to_make g c =
+    let below : c.loop-page.page < c.args.end = search rules in
+    let numbers = c.requires.numbers in
+    record { pages = (omega (arith, below), omega (arith, below, numbers)); of_file = inr c.requires.of_file }
 
 pub loop-page-preserved : goal.loop-page-preserved
 loop-page-preserved g c =

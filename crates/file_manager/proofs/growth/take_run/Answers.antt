@@ -16,7 +16,7 @@ returns-in-Err-NoRoom-clause-sound g c = λ m marks k stands bits named above be
 
 pub returns-in-Err-Mem-clause-sound : goal.returns-in-Err-Mem-clause-sound
 returns-in-Err-Mem-clause-sound g c = λ m marks k stands bits named above below free.
-    let cause : IfMem (λ e. e ≡ halt.Disk) c.in-Err-Mem.field-0 = c.in-Err-Mem.ensures.sound m stands named in
+    let cause : IfMem (λ e. e ≡ halt.Disk) c.in-Err-Mem.field-0 = c.in-Err-Mem.ensures.fails.sound m stands named in
     rw (c.in-Err-Mem.field-0-is, c.in-Err-Mem.halt-is) at cause
 
 pub returns-in-Err-NoRoom-clause-fails : goal.returns-in-Err-NoRoom-clause-fails
@@ -31,7 +31,7 @@ returns-in-Err-NoRoom-clause-fails g c =
 
 pub returns-in-Err-Mem-clause-fails : goal.returns-in-Err-Mem-clause-fails
 returns-in-Err-Mem-clause-fails g c =
-    let cause = c.in-Err-Mem.ensures.cause in
+    let cause = c.in-Err-Mem.ensures.fails.cause in
     record {
       cause = taken_halt (view_of c.args.filer.now).layout (view_of c.args.filer.now).disk (view_of c.take.new.self).disk (view_of c.args.filer.now).slots (view_of c.take.new.self).slots _ (rw (c.in-Err-Mem.field-0-is, c.in-Err-Mem.halt-is) at cause);
       counted = counted _ _ (view_of c.args.filer.now).disk (view_of c.take.new.self).disk _ (omega arith) (rw (c.in-Err-Mem.field-0-is, c.in-Err-Mem.halt-is) at cause);
@@ -44,5 +44,5 @@ returns-in-Err-NoRoom-clause-reasons g c = λ o named h.
 
 pub returns-in-Err-Mem-clause-reasons : goal.returns-in-Err-Mem-clause-reasons
 returns-in-Err-Mem-clause-reasons g c = λ o named h.
-    let cause = c.in-Err-Mem.ensures.cause in
+    let cause = c.in-Err-Mem.ensures.fails.cause in
     take_reasons h c.take.ensures.kept c.in-Err-Mem.halt (rw (c.in-Err-Mem.field-0-is, c.in-Err-Mem.halt-is) at cause)

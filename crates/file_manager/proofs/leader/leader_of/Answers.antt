@@ -25,7 +25,7 @@ returns-in-Ok-Some-clause-revealed g c = λ tables x shapes spaces books.
     let found = subst (IsFound b.named c.args.id leader_page) c.in-Ok-Some.field-0-is here in
     let map = map_is _ _ shapes x is b in (
       b.triples.only c.args.id leader_page _ (found.1 leader_page found.0),
-      books_stay _ _ _ _ _ _ _ shapes spaces x books (c.find.ensures.same x b.named books.stands map) (own_maps FileMap (view_of c.args.filer.now).layout _ _ c.find.ensures.beside.brings) (c.find.ensures.runs_are x b.named books.stands map (kept_are _ _ shapes x is b)),
+      books_stay _ _ _ _ _ _ _ shapes spaces x books (c.find.ensures.leaves.same x b.named books.stands map) (own_maps FileMap (view_of c.args.filer.now).layout _ _ c.find.ensures.leaves.beside.brings) (c.find.ensures.keeps.runs_are x b.named books.stands map (kept_are _ _ shapes x is b)),
     )
 
 pub returns-in-Ok-Some-clause-found : goal.returns-in-Ok-Some-clause-found
@@ -48,7 +48,7 @@ returns-in-Ok-None-clause-revealed g c = λ tables x shapes spaces books.
     let nowhere : IsNowhere b.named c.args.id leader_page = subst (IsFound b.named c.args.id leader_page) c.in-Ok-None.field-0-is here in
     let map = map_is _ _ shapes x is b in (
       no_leader _ _ shapes x b c.args.id nowhere,
-      books_stay _ _ _ _ _ _ _ shapes spaces x books (c.find.ensures.same x b.named books.stands map) (own_maps FileMap (view_of c.args.filer.now).layout _ _ c.find.ensures.beside.brings) (c.find.ensures.runs_are x b.named books.stands map (kept_are _ _ shapes x is b)),
+      books_stay _ _ _ _ _ _ _ shapes spaces x books (c.find.ensures.leaves.same x b.named books.stands map) (own_maps FileMap (view_of c.args.filer.now).layout _ _ c.find.ensures.leaves.beside.brings) (c.find.ensures.keeps.runs_are x b.named books.stands map (kept_are _ _ shapes x is b)),
     )
 
 pub returns-in-Err-clause-revealed : goal.returns-in-Err-clause-revealed
@@ -56,15 +56,15 @@ returns-in-Err-clause-revealed g c = λ tables x shapes spaces books.
     let is : IsLayout (view_of c.args.filer.now).layout = search rules in
     let b = books.booked in
     let map = map_is _ _ shapes x is b in (
-      c.in-Err.ensures.sound x b.named books.stands (map_is _ _ shapes x is b) (map_named _ x is b.long b.map_labels),
-      books_stay _ _ _ _ _ _ _ shapes spaces x books (c.find.ensures.same x b.named books.stands map) (own_maps FileMap (view_of c.args.filer.now).layout _ _ c.find.ensures.beside.brings) (c.find.ensures.runs_are x b.named books.stands map (kept_are _ _ shapes x is b)),
+      c.in-Err.ensures.fails.sound x b.named books.stands (map_is _ _ shapes x is b) (map_named _ x is b.long b.map_labels),
+      books_stay _ _ _ _ _ _ _ shapes spaces x books (c.find.ensures.leaves.same x b.named books.stands map) (own_maps FileMap (view_of c.args.filer.now).layout _ _ c.find.ensures.leaves.beside.brings) (c.find.ensures.keeps.runs_are x b.named books.stands map (kept_are _ _ shapes x is b)),
     )
 
 pub returns-in-Err-clause-fails : goal.returns-in-Err-clause-fails
 returns-in-Err-clause-fails g c = record {
-  cause = search rules;
-  counted = counted _ _ (view_of c.args.filer.now).disk (view_of c.find.new.self).disk _ (omega arith) c.in-Err.ensures.cause;
-  evidence_seen = so_of_map (fits (swapper_of c.args.filer.now) c.requires.size) c.find.ensures.beside.goes.makes c.in-Err.halt c.in-Err.ensures.cause;
+  cause = c.in-Err.ensures.fails.cause;
+  counted = counted _ _ (view_of c.args.filer.now).disk (view_of c.find.new.self).disk _ (omega arith) c.in-Err.ensures.fails.cause;
+  evidence_seen = so_of_map (fits (swapper_of c.args.filer.now) c.requires.size) c.find.ensures.leaves.beside.goes.makes c.in-Err.halt c.in-Err.ensures.fails.cause;
 }
 
 pub returns-in-Ok-None-clause-missing : goal.returns-in-Ok-None-clause-missing
@@ -72,53 +72,53 @@ returns-in-Ok-None-clause-missing g c = λ is m named stands map. c.find.ensures
 
 pub returns-in-Err-clause-stays : goal.returns-in-Err-clause-stays
 returns-in-Err-clause-stays g c = record {
-  same_bytes = search rules;
-  beside = search rules;
-  looked = search rules;
-  runs_given = search rules;
-  runs_are = search rules;
+  same_bytes = c.find.ensures.leaves.same_bytes;
+  beside = c.find.ensures.leaves.beside;
+  looked = c.find.ensures.leaves.looked;
+  runs_given = c.find.ensures.keeps.runs_given;
+  runs_are = c.find.ensures.keeps.runs_are;
   makes = search rules;
   brings = search rules;
-  keeps = keeps_read (inr c.requires.client) c.find.ensures.beside c.find.ensures.same_bytes c.find.ensures.runs_given;
+  keeps = keeps_read (inr c.requires.client) c.find.ensures.leaves.beside c.find.ensures.leaves.same_bytes c.find.ensures.keeps.runs_given;
   layout = search rules;
 }
 
 pub returns-in-Ok-None-clause-stays : goal.returns-in-Ok-None-clause-stays
 returns-in-Ok-None-clause-stays g c = record {
-  same_bytes = search rules;
-  beside = search rules;
-  looked = search rules;
-  runs_given = search rules;
-  runs_are = search rules;
+  same_bytes = c.find.ensures.leaves.same_bytes;
+  beside = c.find.ensures.leaves.beside;
+  looked = c.find.ensures.leaves.looked;
+  runs_given = c.find.ensures.keeps.runs_given;
+  runs_are = c.find.ensures.keeps.runs_are;
   makes = search rules;
   brings = search rules;
-  keeps = keeps_read (inr c.requires.client) c.find.ensures.beside c.find.ensures.same_bytes c.find.ensures.runs_given;
+  keeps = keeps_read (inr c.requires.client) c.find.ensures.leaves.beside c.find.ensures.leaves.same_bytes c.find.ensures.keeps.runs_given;
   layout = search rules;
 }
 
 pub returns-in-Ok-Some-clause-stays : goal.returns-in-Ok-Some-clause-stays
 returns-in-Ok-Some-clause-stays g c = record {
-  same_bytes = search rules;
-  beside = search rules;
-  looked = search rules;
-  runs_given = search rules;
-  runs_are = search rules;
+  same_bytes = c.find.ensures.leaves.same_bytes;
+  beside = c.find.ensures.leaves.beside;
+  looked = c.find.ensures.leaves.looked;
+  runs_given = c.find.ensures.keeps.runs_given;
+  runs_are = c.find.ensures.keeps.runs_are;
   makes = search rules;
   brings = search rules;
-  keeps = keeps_read (inr c.requires.client) c.find.ensures.beside c.find.ensures.same_bytes c.find.ensures.runs_given;
+  keeps = keeps_read (inr c.requires.client) c.find.ensures.leaves.beside c.find.ensures.leaves.same_bytes c.find.ensures.keeps.runs_given;
   layout = search rules;
 }
 
 -- ---- What it keeps to, and the reasons of its halts.
 
 pub returns-in-Ok-Some-clause-accounts : goal.returns-in-Ok-Some-clause-accounts
-returns-in-Ok-Some-clause-accounts g c = λ o named k. found_keeps c.args.filer.now.runs c.find.new.self.runs c.find.ensures.beside c.find.ensures.same c.find.ensures.runs_are k
+returns-in-Ok-Some-clause-accounts g c = λ o named k. found_keeps c.args.filer.now.runs c.find.new.self.runs c.find.ensures.leaves.beside c.find.ensures.leaves.same c.find.ensures.keeps.runs_are k
 
 pub returns-in-Ok-None-clause-accounts : goal.returns-in-Ok-None-clause-accounts
-returns-in-Ok-None-clause-accounts g c = λ o named k. found_keeps c.args.filer.now.runs c.find.new.self.runs c.find.ensures.beside c.find.ensures.same c.find.ensures.runs_are k
+returns-in-Ok-None-clause-accounts g c = λ o named k. found_keeps c.args.filer.now.runs c.find.new.self.runs c.find.ensures.leaves.beside c.find.ensures.leaves.same c.find.ensures.keeps.runs_are k
 
 pub returns-in-Err-clause-accounts : goal.returns-in-Err-clause-accounts
-returns-in-Err-clause-accounts g c = λ o named k. map_reasons k c.find.ensures.beside.goes.makes (accepted c.args.filer.now) c.in-Err.halt c.in-Err.ensures.cause
+returns-in-Err-clause-accounts g c = λ o named k. map_reasons k c.find.ensures.leaves.beside.goes.makes (accepted c.args.filer.now) c.in-Err.halt c.in-Err.ensures.fails.cause
 
 pub returns-in-Ok-Some-clause-names : goal.returns-in-Ok-Some-clause-names
 returns-in-Ok-Some-clause-names g c = λ m named stands map are.

@@ -19,6 +19,9 @@ use Rattle.file_manager.proofs.KeepCut.{tables_more}
 use Rattle.file_manager.proofs.making.make_file.Goals as goal
 use Rattle.filer_kernel.specs.View.{accepted, view_of}
 
+pub make_run-requires-clause-to_make : goal.make_run-requires-clause-to_make
+make_run-requires-clause-to_make g c = record { pages = (omega arith, omega arith); of_file = inr c.requires.of_file }
+
 pub returns-in-Err-clause-made : goal.returns-in-Err-clause-made
 returns-in-Err-clause-made g c = λ tables x shapes spaces may.
     let enough = may.enough in (

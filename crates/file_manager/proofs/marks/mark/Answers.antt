@@ -70,14 +70,14 @@ returns-in-Err-mark_leader-clause-fails g c =
     let old = (view_of c.args.filer.now).disk in
     let kept = runs_of layout.sectors c.args.filer.now.runs in
     let given = subst (λ (o : Option ℕ). IfSome o (λ sector. IsRunHome layout old (view_of c.args.filer.now).slots kept (home_at sector (record { id = c.args.id; page = leader_page })))) c.in-Ok-Some.field-0-is c.in-Ok-Some.ensures.found.1 in
-    let new = g.D.Disk.state c.mark_leader.new.swapper.disk in
+    let new = g.D.Disk.state c.mark_leader.new.memory.disk in
     let wanted : Wanted = record { id = c.args.id; page = leader_page } in
     let size : new.sectors ≡ layout.sectors = marked_sectors c.args.mark _ new _ _ (returns-in-Err-mark_leader-clause-makes g c) ∙ c.requires.size in
     let place = subst (λ (o : Option ℕ). IfSome o (λ sector. (layout.first ≤ sector) × (sector < layout.sectors))) c.in-Ok-Some.field-0-is c.in-Ok-Some.ensures.found.0 in
     record {
-      cause = label_halts layout kept c.args.id old (view_of c.args.filer.now).slots (view_of c.leader_of.new.filer).disk (g.D.Disk.state c.mark_leader.new.swapper.disk) (view_of c.leader_of.new.filer).slots c.in-Ok-Some.sector c.leader_of.ensures.stays.makes given c.in-Err-mark_leader.halt (rw c.swapper_over-swapper.ensures.value at c.in-Err-mark_leader.ensures.fails.cause);
-      counted = counted _ _ (view_of c.leader_of.new.filer).disk (g.D.Disk.state c.mark_leader.new.swapper.disk) _ c.leader_of.ensures.stays.makes.went.faults (rw c.swapper_over-swapper.ensures.value at c.in-Err-mark_leader.ensures.fails.cause);
-      evidence_seen = so_of_other new c.in-Ok-Some.sector wanted (file_may layout new (accepted c.args.filer.now) size c.in-Ok-Some.sector wanted (inr c.requires.client) place.0 place.1) (view_of c.leader_of.new.filer).disk (g.D.Disk.state c.mark_leader.new.swapper.disk) c.in-Err-mark_leader.halt (rw c.swapper_over-swapper.ensures.value at c.in-Err-mark_leader.ensures.fails.evidence_seen);
+      cause = label_halts layout kept c.args.id old (view_of c.args.filer.now).slots (view_of c.leader_of.new.filer).disk (g.D.Disk.state c.mark_leader.new.memory.disk) (view_of c.leader_of.new.filer).slots c.in-Ok-Some.sector c.leader_of.ensures.stays.makes given c.in-Err-mark_leader.halt (rw c.swapper_over-swapper.ensures.value at c.in-Err-mark_leader.ensures.fails.cause);
+      counted = counted _ _ (view_of c.leader_of.new.filer).disk (g.D.Disk.state c.mark_leader.new.memory.disk) _ c.leader_of.ensures.stays.makes.went.faults (rw c.swapper_over-swapper.ensures.value at c.in-Err-mark_leader.ensures.fails.cause);
+      evidence_seen = so_of_other new c.in-Ok-Some.sector wanted (file_may layout new (accepted c.args.filer.now) size c.in-Ok-Some.sector wanted (inr c.requires.client) place.0 place.1) (view_of c.leader_of.new.filer).disk (g.D.Disk.state c.mark_leader.new.memory.disk) c.in-Err-mark_leader.halt (rw c.swapper_over-swapper.ensures.value at c.in-Err-mark_leader.ensures.fails.evidence_seen);
     }
 
 pub returns-in-Err-clause-fails : goal.returns-in-Err-clause-fails
@@ -141,7 +141,7 @@ returns-in-Err-mark_leader-clause-accounts g c = λ o named k.
     let now = c.in-Ok-Some.ensures.accounts o named k in
     let stopped = rw c.swapper_over-swapper.ensures.value at c.in-Err-mark_leader.ensures.stopped.written in
     let cause = rw c.swapper_over-swapper.ensures.value at c.in-Err-mark_leader.ensures.fails.cause in
-    subst (λ (l : Layout). ShowsReason o l (g.D.Disk.state c.mark_leader.new.swapper.disk) c.in-Err-mark_leader.halt) c.leader_of.ensures.stays.layout
+    subst (λ (l : Layout). ShowsReason o l (g.D.Disk.state c.mark_leader.new.memory.disk) c.in-Err-mark_leader.halt) c.leader_of.ensures.stays.layout
     (mark_reasons now (record { id = c.args.id; page = leader_page }) c.in-Ok-Some.sector c.args.mark led stopped c.in-Err-mark_leader.halt cause)
 
 pub returns-clause-accounts : goal.returns-clause-accounts

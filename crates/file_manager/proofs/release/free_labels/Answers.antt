@@ -10,11 +10,11 @@ returns-in-Err-clause-sound g c = λ m stands free ones. (rw c.swapper_over-swap
 pub returns-in-Err-clause-fails : goal.returns-in-Err-clause-fails
 returns-in-Err-clause-fails g c =
     let fails = rw c.swapper_over-swapper.ensures.value at c.in-Err.ensures.fails in
-    let new = g.D.Disk.state c.free_pages_up.new.swapper.disk in
+    let new = g.D.Disk.state c.free_pages_up.new.memory.disk in
     let size = (rw c.swapper_over-swapper.ensures.value at c.in-Err.ensures.stopped).makes.went.sectors ∙ c.requires.size in
     record {
       cause = fails.cause;
-      counted = counted _ _ (view_of c.args.filer.now).disk (g.D.Disk.state c.free_pages_up.new.swapper.disk) _ (omega arith) fails.cause;
+      counted = counted _ _ (view_of c.args.filer.now).disk (g.D.Disk.state c.free_pages_up.new.memory.disk) _ (omega arith) fails.cause;
       evidence_seen = so_of_run (view_of c.args.filer.now).layout new (accepted c.args.filer.now) size c.args.run c.requires.data c.requires.form (view_of c.args.filer.now).disk new c.in-Err.halt fails.evidence_seen;
     }
 

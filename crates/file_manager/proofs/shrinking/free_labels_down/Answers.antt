@@ -11,7 +11,7 @@ returns-in-Err-clause-fails g c = let fails = rw c.swapper_over-swapper.ensures.
   cause = fails.cause;
   counted = search rules;
   evidence_seen =
-      let new = g.D.Disk.state c.free_pages_down.new.swapper.disk in
+      let new = g.D.Disk.state c.free_pages_down.new.memory.disk in
       let size = (rw c.swapper_over-swapper.ensures.value at c.in-Err.ensures.stopped).makes.went.sectors ∙ c.requires.size in
       so_of_run (view_of c.args.filer.now).layout new (accepted c.args.filer.now) size c.args.run c.requires.data c.requires.form (view_of c.args.filer.now).disk new c.in-Err.halt fails.evidence_seen;
 }

@@ -22,14 +22,14 @@ returns-in-Ok-Some-clause-named g c = λ m named stands map kept. (
       let found = subst (IsFound named c.args.id (c.args.end - 1)) c.in-Ok-Some.field-0-is (c.in-Ok-Some.ensures.found m named stands map kept) in
       let from : c.in-Ok-Some.run'.first ≤ c.max-first.result = search rules in
       last_named named c.args.id c.args.end c.max-first.result c.in-Ok-Some.run' found (let some = c.requires.some in omega (arith, some)) from k below,
-  c.find.ensures.runs_are m named stands map kept,
+  c.find.ensures.keeps.runs_are m named stands map kept,
 )
 
 pub returns-in-Ok-None-clause-named : goal.returns-in-Ok-None-clause-named
-returns-in-Ok-None-clause-named g c = λ m named stands map kept. (tt, c.find.ensures.runs_are m named stands map kept)
+returns-in-Ok-None-clause-named g c = λ m named stands map kept. (tt, c.find.ensures.keeps.runs_are m named stands map kept)
 
 pub returns-in-Err-clause-named : goal.returns-in-Err-clause-named
-returns-in-Err-clause-named g c = λ m named stands map kept. (tt, c.find.ensures.runs_are m named stands map kept)
+returns-in-Err-clause-named g c = λ m named stands map kept. (tt, c.find.ensures.keeps.runs_are m named stands map kept)
 
 pub returns-in-Ok-None-clause-sound : goal.returns-in-Ok-None-clause-sound
 returns-in-Ok-None-clause-sound g c = λ m named sector stands map labels is.
@@ -37,7 +37,7 @@ returns-in-Ok-None-clause-sound g c = λ m named sector stands map labels is.
     absurd (true≢false (sym is ∙ nowhere sector))
 
 pub returns-in-Err-clause-sound : goal.returns-in-Err-clause-sound
-returns-in-Err-clause-sound g c = λ m named sector stands map labels is. c.in-Err.ensures.sound m named stands map labels
+returns-in-Err-clause-sound g c = λ m named sector stands map labels is. c.in-Err.ensures.fails.sound m named stands map labels
 
 pub returns-in-Err-clause-fails : goal.returns-in-Err-clause-fails
 returns-in-Err-clause-fails g c = record {
@@ -47,9 +47,9 @@ returns-in-Err-clause-fails g c = record {
       let pool = (view_of c.args.filer.now).slots in
       let kept = runs_of layout.sectors c.args.filer.now.runs in
       let new = (view_of c.find.new.self).disk in
-      search_halts_after (keeps_none (IsUnframed pool c.args.id) layout c.args.id old pool kept (λ none. none)) (λ p. p ≡ (c.args.end - 1)) new c.in-Err.halt c.in-Err.ensures.cause;
+      search_halts_after (keeps_none (IsUnframed pool c.args.id) layout c.args.id old pool kept (λ none. none)) (λ p. p ≡ (c.args.end - 1)) new c.in-Err.halt c.in-Err.ensures.fails.cause;
   counted = search rules;
-  evidence_seen = λ of_file. so_of_map (fits (swapper_of c.args.filer.now) c.requires.size) c.find.ensures.beside.goes.makes c.in-Err.halt c.in-Err.ensures.cause;
+  evidence_seen = λ of_file. so_of_map (fits (swapper_of c.args.filer.now) c.requires.size) c.find.ensures.leaves.beside.goes.makes c.in-Err.halt c.in-Err.ensures.fails.cause;
 }
 
 pub returns-in-Ok-None-clause-fails : goal.returns-in-Ok-None-clause-fails
@@ -74,19 +74,28 @@ returns-in-Ok-Some-clause-part g c = (
 )
 
 pub returns-in-Err-clause-keeps : goal.returns-in-Err-clause-keeps
-returns-in-Err-clause-keeps g c = λ of_file. keeps_read of_file c.find.ensures.beside c.find.ensures.same_bytes c.find.ensures.runs_given
+returns-in-Err-clause-keeps g c = λ of_file. keeps_read of_file c.find.ensures.leaves.beside c.find.ensures.leaves.same_bytes c.find.ensures.keeps.runs_given
 
 pub returns-in-Ok-None-clause-keeps : goal.returns-in-Ok-None-clause-keeps
-returns-in-Ok-None-clause-keeps g c = λ of_file. keeps_read of_file c.find.ensures.beside c.find.ensures.same_bytes c.find.ensures.runs_given
+returns-in-Ok-None-clause-keeps g c = λ of_file. keeps_read of_file c.find.ensures.leaves.beside c.find.ensures.leaves.same_bytes c.find.ensures.keeps.runs_given
 
 pub returns-in-Ok-Some-clause-keeps : goal.returns-in-Ok-Some-clause-keeps
-returns-in-Ok-Some-clause-keeps g c = λ of_file. keeps_read of_file c.find.ensures.beside c.find.ensures.same_bytes c.find.ensures.runs_given
+returns-in-Ok-Some-clause-keeps g c = λ of_file. keeps_read of_file c.find.ensures.leaves.beside c.find.ensures.leaves.same_bytes c.find.ensures.keeps.runs_given
 
 pub returns-in-Ok-Some-clause-accounts : goal.returns-in-Ok-Some-clause-accounts
-returns-in-Ok-Some-clause-accounts g c = λ o named h. found_keeps c.args.filer.now.runs c.find.new.self.runs c.find.ensures.beside c.find.ensures.same c.find.ensures.runs_are h
+returns-in-Ok-Some-clause-accounts g c = λ o named h. found_keeps c.args.filer.now.runs c.find.new.self.runs c.find.ensures.leaves.beside c.find.ensures.leaves.same c.find.ensures.keeps.runs_are h
 
 pub returns-in-Err-clause-accounts : goal.returns-in-Err-clause-accounts
-returns-in-Err-clause-accounts g c = λ o named h may. map_reasons h c.find.ensures.beside.goes.makes (accepted c.args.filer.now) c.in-Err.halt c.in-Err.ensures.cause
+returns-in-Err-clause-accounts g c = λ o named h may. map_reasons h c.find.ensures.leaves.beside.goes.makes (accepted c.args.filer.now) c.in-Err.halt c.in-Err.ensures.fails.cause
 
 pub returns-in-Ok-None-clause-accounts : goal.returns-in-Ok-None-clause-accounts
-returns-in-Ok-None-clause-accounts g c = λ o named h may. lack_reason h c.find.ensures.beside.goes.makes c.args.id (c.args.end - 1) may (λ m named stands map. c.find.ensures.nowhere m named stands map (search rules))
+returns-in-Ok-None-clause-accounts g c = λ o named h may. lack_reason h c.find.ensures.leaves.beside.goes.makes c.args.id (c.args.end - 1) may (λ m named stands map. c.find.ensures.nowhere m named stands map (search rules))
+
+pub returns-in-Ok-Some-clause-stays : goal.returns-in-Ok-Some-clause-stays
+returns-in-Ok-Some-clause-stays g c = record { same = c.find.ensures.leaves.same; beside = c.find.ensures.leaves.beside }
+
+pub returns-in-Ok-None-clause-stays : goal.returns-in-Ok-None-clause-stays
+returns-in-Ok-None-clause-stays g c = record { same = c.find.ensures.leaves.same; beside = c.find.ensures.leaves.beside }
+
+pub returns-in-Err-clause-stays : goal.returns-in-Err-clause-stays
+returns-in-Err-clause-stays g c = record { same = c.find.ensures.leaves.same; beside = c.find.ensures.leaves.beside }

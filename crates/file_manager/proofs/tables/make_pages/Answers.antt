@@ -14,8 +14,10 @@ loop-page-preserved g c =
     let below : c.loop-page.page < 96 = search rules in
     tables_more c.loop-page.page _ _ _ (accepted c.args.filer.now) _ _ _ _ _ c.loop-page.invariant below c.in-Ok.run' _ _ _ _ c.in-Ok.ensures.run.0 c.in-Ok.ensures.writes c.in-Ok.ensures.made c.in-Ok.ensures.stays.layout c.in-Ok.ensures.stays.runs c.in-Ok.ensures.cost.1 c.make_run.ensures.stays.come c.in-Ok.ensures.run.2 c.in-Ok.ensures.run.1 (λ o named h may untold none. c.in-Ok.ensures.accounts o named h none may untold) c.in-Ok.ensures.tables
 
-pub make_run-requires-clause-of_file : goal.make_run-requires-clause-of_file
-make_run-requires-clause-of_file g c = let below = c.loop-page.invariant.up.below in inl (refl, refl, omega (arith, below))
+pub make_run-requires-clause-to_make : goal.make_run-requires-clause-to_make
+make_run-requires-clause-to_make g c =
+    let below : c.loop-page.page < 96 = search rules in
+    record { pages = (omega (arith, below), omega (arith, below)); of_file = inl (refl, refl, omega (arith, below)) }
 
 pub returns-in-Err-clause-made : goal.returns-in-Err-clause-made
 returns-in-Err-clause-made g c =

@@ -24,3 +24,9 @@ returns-clause-full_same g c = λ b h.
     let same_room = g.met.T.SearchedEntries.same_room _ _ c.count_of.ensures.kept in
     err_weaker c.put.result _ _ c.put.ensures.cause (λ error why. if_not_full c.args.sectors ((n : ℕ) → g.T.SearchedEntries.counts c.count_of.new.entries n → g.T.SearchedEntries.room c.count_of.new.entries ≤ n) (g.T.SearchedEntries.shows c.count_of.new.entries) (g.T.SearchedEntries.accounted c.count_of.new.entries c.put.new.entries) error (g.T.SearchedEntries.revealed c.put.new.entries b)
     (λ full. omega (arith, full counted.0 (c.count_of.ensures.same_count counted.0 counted.1), fewer, same_room, c.requires.room)) why)
+
+pub returns-clause-kept : goal.returns-clause-kept
+returns-clause-kept g c = g.met.T.SearchedEntries.beside_through _ _ _ c.count_of.ensures.kept c.put.ensures.kept
+
+pub returns-clause-cost : goal.returns-clause-cost
+returns-clause-cost g c = omega (arith, c.count_of.ensures.cost, c.put.ensures.cost)

@@ -41,3 +41,24 @@ returns-in_err-insert-2-clause-cause g c =
     (c.in_ok-extend.ensures.same_sights c.if-branch.false)
     (λ e why. g.met.T.SearchedEntries.accounted_wider _ _ _ _ e c.extend.ensures.kept c.insert-2.ensures.kept last why)
     (put_cause c.args.sectors ((n : ℕ) → g.T.SearchedEntries.counts c.extend.new.entries n → g.T.SearchedEntries.room c.extend.new.entries ≤ n) (g.T.SearchedEntries.shows c.extend.new.entries) (g.T.SearchedEntries.accounted c.extend.new.entries c.insert-2.new.self) c.in_err-insert-2.field-0.0 c.in_err-insert-2.ensures.cause))
+
+pub returns-in_err-insert-2-clause-kept : goal.returns-in_err-insert-2-clause-kept
+returns-in_err-insert-2-clause-kept g c = g.met.T.SearchedEntries.beside_through _ _ _ c.extend.ensures.kept c.insert-2.ensures.kept
+
+pub returns-clause-kept : goal.returns-clause-kept
+returns-clause-kept g c = g.met.T.SearchedEntries.beside_through _ _ _ c.extend.ensures.kept c.insert-2.ensures.kept
+
+pub returns-in_err-insert-clause-cost : goal.returns-in_err-insert-clause-cost
+returns-in_err-insert-clause-cost g c = omega (arith, c.insert.ensures.cost)
+
+pub returns-then-not-may_join-clause-cost : goal.returns-then-not-may_join-clause-cost
+returns-then-not-may_join-clause-cost g c = omega (arith, c.insert.ensures.cost)
+
+pub returns-in_err-extend-clause-cost : goal.returns-in_err-extend-clause-cost
+returns-in_err-extend-clause-cost g c = omega (arith, c.extend.ensures.cost)
+
+pub returns-in_err-insert-2-clause-cost : goal.returns-in_err-insert-2-clause-cost
+returns-in_err-insert-2-clause-cost g c = omega (arith, c.extend.ensures.cost, c.insert-2.ensures.cost)
+
+pub returns-clause-cost : goal.returns-clause-cost
+returns-clause-cost g c = omega (arith, c.extend.ensures.cost, c.insert-2.ensures.cost)

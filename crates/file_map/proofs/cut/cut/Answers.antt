@@ -129,3 +129,12 @@ returns-then-not-branch-clause-cost g c =
     (omega (arith, c.cut_last.ensures.cost)) c.cutting.invariant.cost
     in
     omega (arith, first, all)
+
+pub returns-in_err-cut_last-clause-kept : goal.returns-in_err-cut_last-clause-kept
+returns-in_err-cut_last-clause-kept g c = g.met.T.SearchedEntries.beside_through _ _ _ c.cutting.invariant.kept c.cut_last.ensures.kept
+
+pub returns-then-not-branch-clause-kept : goal.returns-then-not-branch-clause-kept
+returns-then-not-branch-clause-kept g c = g.met.T.SearchedEntries.beside_through _ _ _ c.cutting.invariant.kept c.cut_last.ensures.kept
+
+pub returns-clause-kept : goal.returns-clause-kept
+returns-clause-kept g c = c.cutting.invariant.kept

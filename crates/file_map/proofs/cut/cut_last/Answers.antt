@@ -59,3 +59,36 @@ returns-then-run-from-clause-more g c = λ more.
 
 pub returns-clause-more : goal.returns-clause-more
 returns-clause-more g c = λ same. absurd (false≢true same)
+
+pub returns-in_err-taken-clause-kept : goal.returns-in_err-taken-clause-kept
+returns-in_err-taken-clause-kept g c = g.met.T.SearchedEntries.beside_through _ _ _ c.last_run.ensures.kept c.remove_key.ensures.kept
+
+pub returns-then-run-from-clause-kept : goal.returns-then-run-from-clause-kept
+returns-then-run-from-clause-kept g c = g.met.T.SearchedEntries.beside_through _ _ _ c.last_run.ensures.kept c.remove_key.ensures.kept
+
+pub returns-in_err-replace_key-clause-kept : goal.returns-in_err-replace_key-clause-kept
+returns-in_err-replace_key-clause-kept g c = g.met.T.SearchedEntries.beside_through _ _ _ c.last_run.ensures.kept c.replace_key.ensures.kept
+
+pub returns-clause-kept : goal.returns-clause-kept
+returns-clause-kept g c = g.met.T.SearchedEntries.beside_through _ _ _ c.last_run.ensures.kept c.replace_key.ensures.kept
+
+pub returns-in_err-run-clause-cost : goal.returns-in_err-run-clause-cost
+returns-in_err-run-clause-cost g c = omega (arith, c.last_run.ensures.cost)
+
+pub returns-in-None-clause-cost : goal.returns-in-None-clause-cost
+returns-in-None-clause-cost g c = omega (arith, c.last_run.ensures.cost)
+
+pub returns-then-run-id-clause-cost : goal.returns-then-run-id-clause-cost
+returns-then-run-id-clause-cost g c = omega (arith, c.last_run.ensures.cost)
+
+pub returns-in_err-taken-clause-cost : goal.returns-in_err-taken-clause-cost
+returns-in_err-taken-clause-cost g c = omega (arith, c.last_run.ensures.cost, c.remove_key.ensures.cost)
+
+pub returns-then-run-from-clause-cost : goal.returns-then-run-from-clause-cost
+returns-then-run-from-clause-cost g c = omega (arith, c.last_run.ensures.cost, c.remove_key.ensures.cost)
+
+pub returns-in_err-replace_key-clause-cost : goal.returns-in_err-replace_key-clause-cost
+returns-in_err-replace_key-clause-cost g c = omega (arith, c.last_run.ensures.cost, c.replace_key.ensures.cost)
+
+pub returns-clause-cost : goal.returns-clause-cost
+returns-clause-cost g c = omega (arith, c.last_run.ensures.cost, c.replace_key.ensures.cost)

@@ -4,5 +4,5 @@ use Rattle.force_calls.proofs.calls.discard.Given as goal
 
 abbrev pub invariant-loop-look : goal.invariant-loop-look
 invariant-loop-look g l =
-    IsForgetting l.by_page l.fn.id l.fn.first l.fn.pages (g.D.Disk.state l.fn.swapper.disk) l.fn.swapper.pool (g.D.Disk.state l.swapper.disk) l.swapper.pool l.look
-    × (l.swapper.disk ≡ l.fn.swapper.disk) × (l.swapper.layout ≡ l.fn.swapper.layout)
+    IsForgetting l.by_page l.fn.id l.fn.first l.fn.pages (g.D.Disk.state l.fn.memory.disk) l.fn.memory.pool (g.D.Disk.state l.memory.disk) l.memory.pool l.look
+    × (l.memory.disk ≡ l.fn.memory.disk) × (l.memory.layout ≡ l.fn.memory.layout)

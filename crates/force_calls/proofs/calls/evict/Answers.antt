@@ -16,7 +16,7 @@ returns-clause-run g c = only_run_then c.flush.ensures.run c.discard.ensures.run
 
 pub returns-clause-written : goal.returns-clause-written
 returns-clause-written g c = record {
-  middle = c.flush.new.swapper.pool;
+  middle = c.flush.new.memory.pool;
   steps = rw c.discard.ensures.disk c.flush.ensures.steps;
   clean = c.in_ok-flush.ensures.clean;
   run = c.discard.ensures.run;

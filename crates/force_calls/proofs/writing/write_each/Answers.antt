@@ -11,19 +11,19 @@ use Rattle.force_calls.proofs.writing.write_each.Goals as goal
 use Rattle.force_calls.proofs.writing.write_each.Goals.{in-Some+in_ok-write_out, in_default}
 
 pub loop-look-init : goal.loop-look-init
-loop-look-init g c = forcing_none c.is_short-by_page.result c.args.run.now.id c.args.run.now.first c.args.run.now.pages _ c.args.swapper.now.pool c.args.swapper.now.layout c.requires.size
+loop-look-init g c = forcing_none c.is_short-by_page.result c.args.run.now.id c.args.run.now.first c.args.run.now.pages _ c.args.memory.now.pool c.args.memory.now.layout c.requires.size
 
 pub write_out-requires-clause-below : goal.write_out-requires-clause-below
 write_out-requires-clause-below g c =
-    let pool : c.frames-in-loop-look.result.now ≡ c.loop-look.swapper.pool = search rules in
+    let pool : c.frames-in-loop-look.result.now ≡ c.loop-look.memory.pool = search rules in
     let below = c.in-Some.ensures.below in
     subst (λ (s : Slots). c.in-Some.slot < length s) pool below
 
 pub returns-in_err-write_out-clause-forces : goal.returns-in_err-write_out-clause-forces
 returns-in_err-write_out-clause-forces g c =
-    let pool : c.frames-in-loop-look.result.now ≡ c.loop-look.swapper.pool = search rules in
+    let pool : c.frames-in-loop-look.result.now ≡ c.loop-look.memory.pool = search rules in
     let f = c.in-Some.ensures.dirty in
-    forcing_failed c.loop-look.invariant c.in-Some.slot f.0 (has_in pool f.1) f.2 f.3 c.write_out.ensures.cost c.write_out.ensures.swaps c.write_out.ensures.steps c.in_err-write_out.ensures.kept
+    forcing_failed c.loop-look.invariant c.in-Some.slot f.0 (has_in pool f.1) f.2 f.3 c.write_out.ensures.cost c.write_out.ensures.moves.swaps c.write_out.ensures.moves.steps c.in_err-write_out.ensures.kept
 
 pub returns-in_err-write_out-clause-sound : goal.returns-in_err-write_out-clause-sound
 returns-in_err-write_out-clause-sound g c = λ m h.
@@ -40,17 +40,17 @@ returns-in_err-write_out-clause-cause g c =
 pub loop-look-preserved : goal.loop-look-preserved
 loop-look-preserved g c =
     let so_far = c.loop-look.invariant in
-    let pool : c.frames-in-loop-look.result.now ≡ c.loop-look.swapper.pool = search rules in
+    let pool : c.frames-in-loop-look.result.now ≡ c.loop-look.memory.pool = search rules in
     elim c.match-dirty_found.branch [
       | in-Some+in_ok-write_out w ↦
           let f = w.in-Some.ensures.dirty in
-          rw w.swapper-is (forcing_written so_far w.in-Some.slot f.0 (has_in pool f.1) f.2 f.3 w.write_out.ensures.cost w.write_out.ensures.swaps w.write_out.ensures.steps _ w.in_ok-write_out.ensures.cleaned w.write_out.ensures.layout
+          rw w.memory-is (forcing_written so_far w.in-Some.slot f.0 (has_in pool f.1) f.2 f.3 w.write_out.ensures.cost w.write_out.ensures.moves.swaps w.write_out.ensures.moves.steps _ w.in_ok-write_out.ensures.cleaned w.write_out.ensures.layout
           (λ i x has within look dirty. sym (same_Some w.in-Some.slot i (w.in-Some.ensures.all i x (has_in (sym pool) has) within look dirty))))
       | in_default w ↦
-          rw w.swapper-is (forcing_on so_far (λ i x has within look. false_from_ne_true x.dirty (λ dirty. w.in_default.not-Some i (c.dirty_found.ensures.all i x (has_in (sym pool) has) within look dirty))))
+          rw w.memory-is (forcing_on so_far (λ i x has within look. false_from_ne_true x.dirty (λ dirty. w.in_default.not-Some i (c.dirty_found.ensures.all i x (has_in (sym pool) has) within look dirty))))
     ]
 
 pub returns-clause-clean : goal.returns-clause-clean
 returns-clause-clean g c = λ i f has within.
     let so_far = c.loop-look.invariant in
-    so_far.past i f (found_below c.is_short-by_page.result c.args.run.now.id c.args.run.now.first c.args.run.now.pages c.args.swapper.now.pool c.loop-look.swapper.pool i c.loop-look.look c.looks-look-end.result f so_far.forces.swaps.makes.count (search rules) c.loop-look-test.false has within) has within
+    so_far.past i f (found_below c.is_short-by_page.result c.args.run.now.id c.args.run.now.first c.args.run.now.pages c.args.memory.now.pool c.loop-look.memory.pool i c.loop-look.look c.looks-look-end.result f so_far.forces.swaps.makes.count (search rules) c.loop-look-test.false has within) has within

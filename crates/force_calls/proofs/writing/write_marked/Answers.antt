@@ -11,19 +11,19 @@ use Rattle.force_calls.proofs.writing.write_marked.Goals as goal
 use Rattle.force_calls.proofs.writing.write_marked.Goals.{then-has+in-Some+in_ok-write_out, then-has+in_default, else-has}
 
 pub loop-place-init : goal.loop-place-init
-loop-place-init g c = forcing_none true c.args.run.now.id c.args.run.now.first c.args.run.now.pages _ c.args.swapper.now.pool c.args.swapper.now.layout c.requires.size
+loop-place-init g c = forcing_none true c.args.run.now.id c.args.run.now.first c.args.run.now.pages _ c.args.memory.now.pool c.args.memory.now.layout c.requires.size
 
 pub write_out-requires-clause-below : goal.write_out-requires-clause-below
 write_out-requires-clause-below g c =
-    let pool : c.frames-then-has.result.now ≡ c.loop-place.swapper.pool = search rules in
+    let pool : c.frames-then-has.result.now ≡ c.loop-place.memory.pool = search rules in
     let below = c.in-Some.ensures.below in
     subst (λ (s : Slots). c.in-Some.slot < length s) pool below
 
 pub returns-in_err-write_out-clause-forces : goal.returns-in_err-write_out-clause-forces
 returns-in_err-write_out-clause-forces g c =
-    let pool : c.frames-then-has.result.now ≡ c.loop-place.swapper.pool = search rules in
+    let pool : c.frames-then-has.result.now ≡ c.loop-place.memory.pool = search rules in
     let f = c.in-Some.ensures.dirty in
-    forcing_failed c.loop-place.invariant c.in-Some.slot f.0 (has_in pool f.1) f.2 f.3 c.write_out.ensures.cost c.write_out.ensures.swaps c.write_out.ensures.steps c.in_err-write_out.ensures.kept
+    forcing_failed c.loop-place.invariant c.in-Some.slot f.0 (has_in pool f.1) f.2 f.3 c.write_out.ensures.cost c.write_out.ensures.moves.swaps c.write_out.ensures.moves.steps c.in_err-write_out.ensures.kept
 
 pub returns-in_err-write_out-clause-sound : goal.returns-in_err-write_out-clause-sound
 returns-in_err-write_out-clause-sound g c = λ m h.
@@ -41,18 +41,18 @@ pub loop-place-preserved : goal.loop-place-preserved
 loop-place-preserved g c =
     let run = c.args.run.now in
     let so_far = c.loop-place.invariant in
-    let first : c.frames.result.now ≡ c.args.swapper.now.pool = search rules in
+    let first : c.frames.result.now ≡ c.args.memory.now.pool = search rules in
     elim c.if-has.branch [
       | then-has+in-Some+in_ok-write_out w ↦
-          let pool : w.frames-then-has.result.now ≡ c.loop-place.swapper.pool = search rules in
+          let pool : w.frames-then-has.result.now ≡ c.loop-place.memory.pool = search rules in
           let f = w.in-Some.ensures.dirty in
-          rw w.swapper-is (forcing_written so_far w.in-Some.slot f.0 (has_in pool f.1) f.2 f.3 w.write_out.ensures.cost w.write_out.ensures.swaps w.write_out.ensures.steps _ w.in_ok-write_out.ensures.cleaned w.write_out.ensures.layout
+          rw w.memory-is (forcing_written so_far w.in-Some.slot f.0 (has_in pool f.1) f.2 f.3 w.write_out.ensures.cost w.write_out.ensures.moves.swaps w.write_out.ensures.moves.steps _ w.in_ok-write_out.ensures.cleaned w.write_out.ensures.layout
           (λ i x has within look dirty. sym (same_Some w.in-Some.slot i (w.in-Some.ensures.all i x (has_in (sym pool) has) within look dirty))))
       | then-has+in_default w ↦
-          let pool : w.frames-then-has.result.now ≡ c.loop-place.swapper.pool = search rules in
-          rw w.swapper-is (forcing_on so_far (λ i x has within look. false_from_ne_true x.dirty (λ dirty. w.in_default.not-Some i (w.dirty_found.ensures.all i x (has_in (sym pool) has) within look dirty))))
+          let pool : w.frames-then-has.result.now ≡ c.loop-place.memory.pool = search rules in
+          rw w.memory-is (forcing_on so_far (λ i x has within look. false_from_ne_true x.dirty (λ dirty. w.in_default.not-Some i (w.dirty_found.ensures.all i x (has_in (sym pool) has) within look dirty))))
       | else-has w ↦
-          rw w.swapper-is (forcing_on so_far (unmarked_clean run.id run.first run.pages c.args.swapper.now.pool c.loop-place.swapper.pool c.mark.new.self c.loop-place.place
+          rw w.memory-is (forcing_on so_far (unmarked_clean run.id run.first run.pages c.args.memory.now.pool c.loop-place.memory.pool c.mark.new.self c.loop-place.place
           (λ i f has within dirty. c.mark.ensures i f (has_in (sym first) has) within dirty) so_far.left (sym c.has.ensures ∙ w.if-has.false)))
     ]
 

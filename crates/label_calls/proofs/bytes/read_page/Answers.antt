@@ -9,21 +9,21 @@ use Rattle.label_calls.proofs.bytes.read_page.Goals as goal
 
 pub returns-in-Err-clause-makes : goal.returns-in-Err-clause-makes
 returns-in-Err-clause-makes g c =
-    let same : RevealsSame (g.D.Disk.state c.args.swapper.now.disk) (g.D.Disk.state c.read.new.self) = search rules in
-    let moves : Moves (g.D.Disk.state c.args.swapper.now.disk) (g.D.Disk.state c.read.new.self) = search rules in
-    (step_laws.read _ _ c.args.swapper.now.pool same moves).makes
+    let same : RevealsSame (g.D.Disk.state c.args.memory.now.disk) (g.D.Disk.state c.read.new.self) = search rules in
+    let moves : Moves (g.D.Disk.state c.args.memory.now.disk) (g.D.Disk.state c.read.new.self) = search rules in
+    (step_laws.read _ _ c.args.memory.now.pool same moves).makes
 
 pub returns-then-not-names-clause-makes : goal.returns-then-not-names-clause-makes
 returns-then-not-names-clause-makes g c =
-    let same : RevealsSame (g.D.Disk.state c.args.swapper.now.disk) (g.D.Disk.state c.read.new.self) = search rules in
-    let moves : Moves (g.D.Disk.state c.args.swapper.now.disk) (g.D.Disk.state c.read.new.self) = search rules in
-    (step_laws.read _ _ c.args.swapper.now.pool same moves).makes
+    let same : RevealsSame (g.D.Disk.state c.args.memory.now.disk) (g.D.Disk.state c.read.new.self) = search rules in
+    let moves : Moves (g.D.Disk.state c.args.memory.now.disk) (g.D.Disk.state c.read.new.self) = search rules in
+    (step_laws.read _ _ c.args.memory.now.pool same moves).makes
 
 pub returns-clause-makes : goal.returns-clause-makes
 returns-clause-makes g c =
-    let same : RevealsSame (g.D.Disk.state c.args.swapper.now.disk) (g.D.Disk.state c.read.new.self) = search rules in
-    let moves : Moves (g.D.Disk.state c.args.swapper.now.disk) (g.D.Disk.state c.read.new.self) = search rules in
-    (step_laws.read _ _ c.args.swapper.now.pool same moves).makes
+    let same : RevealsSame (g.D.Disk.state c.args.memory.now.disk) (g.D.Disk.state c.read.new.self) = search rules in
+    let moves : Moves (g.D.Disk.state c.args.memory.now.disk) (g.D.Disk.state c.read.new.self) = search rules in
+    (step_laws.read _ _ c.args.memory.now.pool same moves).makes
 
 pub returns-then-not-names-clause-fails : goal.returns-then-not-names-clause-fails
 returns-then-not-names-clause-fails g c = record {

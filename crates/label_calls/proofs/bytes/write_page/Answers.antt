@@ -11,22 +11,22 @@ use Rattle.label_calls.proofs.bytes.write_page.Goals as goal
 
 pub returns-in-Ok-clause-written : goal.returns-in-Ok-clause-written
 returns-in-Ok-clause-written g c =
-    let old = g.D.Disk.state c.args.swapper.now.disk in
+    let old = g.D.Disk.state c.args.memory.now.disk in
     let new = g.D.Disk.state c.write_data.new.self in
     let form = page_form c.args.bytes.now c.told-bytes c.fits-bytes in
     let made : RevealsWrite (write.Page c.args.sector c.args.wanted c.args.bytes.now) old new = search rules in
     let named : NamesThere old c.args.sector c.args.wanted true = search rules in
     let moves : Moves old new = search rules in
-    was_written c.args.sector c.args.wanted c.args.bytes.now old new c.args.swapper.now.pool c.requires.not_root form made named (went_by moves)
+    was_written c.args.sector c.args.wanted c.args.bytes.now old new c.args.memory.now.pool c.requires.not_root form made named (went_by moves)
 
 pub returns-in-Err-Failed-clause-stopped : goal.returns-in-Err-Failed-clause-stopped
 returns-in-Err-Failed-clause-stopped g c =
-    let old = g.D.Disk.state c.args.swapper.now.disk in
+    let old = g.D.Disk.state c.args.memory.now.disk in
     let new = g.D.Disk.state c.write_data.new.self in
     let form = page_form c.args.bytes.now c.told-bytes c.fits-bytes in
     let either : RevealsSame old new ⊎ (RevealsWrite (write.Page c.args.sector c.args.wanted c.args.bytes.now) old new × NamesThere old c.args.sector c.args.wanted true) = search rules in
     let moves : Moves old new = search rules in
-    may_write c.args.sector c.args.wanted c.args.bytes.now old new c.args.swapper.now.pool c.requires.not_root form (went_by moves) either
+    may_write c.args.sector c.args.wanted c.args.bytes.now old new c.args.memory.now.pool c.requires.not_root form (went_by moves) either
 
 pub returns-in-Err-Wrong-clause-fails : goal.returns-in-Err-Wrong-clause-fails
 returns-in-Err-Wrong-clause-fails g c = record {

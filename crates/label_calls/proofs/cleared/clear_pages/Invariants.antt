@@ -3,4 +3,4 @@ use Rattle.label_calls.proofs.cleared.clear_pages.Given as goal
 
 abbrev pub invariant-loop-k : goal.invariant-loop-k
 invariant-loop-k g l =
-    IsClearing l.fn.sector l.fn.pages l.k (g.D.Disk.state l.fn.swapper.disk) l.fn.swapper.pool l.fn.swapper.layout (g.D.Disk.state l.swapper.disk) l.swapper.pool l.swapper.layout
+    IsClearing l.fn.sector l.fn.pages l.k (g.D.Disk.state l.fn.memory.disk) l.fn.memory.pool l.fn.memory.layout (g.D.Disk.state l.memory.disk) l.memory.pool l.memory.layout

@@ -23,7 +23,7 @@ pub returns-in-Err-sync-clause-stopped : goal.returns-in-Err-sync-clause-stopped
 returns-in-Err-sync-clause-stopped g c = none_made _ _ _ (clears_then_same c.in-Ok.ensures.writes c.sync.ensures.same c.sync.ensures.went).makes
 
 pub returns-in-Err-sync-clause-fails : goal.returns-in-Err-sync-clause-fails
-returns-in-Err-sync-clause-fails g c = fault_fails _ (g.D.Disk.state c.clear_pages.new.swapper.disk) _ _ _ c.in-Err-sync.halt c.in-Ok.ensures.writes.makes.went.faults c.in-Err-sync.ensures.cause
+returns-in-Err-sync-clause-fails g c = fault_fails _ (g.D.Disk.state c.clear_pages.new.memory.disk) _ _ _ c.in-Err-sync.halt c.in-Ok.ensures.writes.makes.went.faults c.in-Err-sync.ensures.cause
 
 pub returns-in-Err-sync-clause-own : goal.returns-in-Err-sync-clause-own
 returns-in-Err-sync-clause-own g c = λ other. none_own other (clears_then_same c.in-Ok.ensures.writes c.sync.ensures.same c.sync.ensures.went).makes

@@ -5,12 +5,12 @@ use Rattle.label_calls.proofs.label.read_label.Goals as goal
 
 pub returns-in-Ok-clause-makes : goal.returns-in-Ok-clause-makes
 returns-in-Ok-clause-makes g c =
-    let same : RevealsSame (g.D.Disk.state c.args.swapper.now.disk) (g.D.Disk.state c.read.new.self) = search rules in
-    let moves : Moves (g.D.Disk.state c.args.swapper.now.disk) (g.D.Disk.state c.read.new.self) = search rules in
-    (step_laws.read _ _ c.args.swapper.now.pool same moves).makes
+    let same : RevealsSame (g.D.Disk.state c.args.memory.now.disk) (g.D.Disk.state c.read.new.self) = search rules in
+    let moves : Moves (g.D.Disk.state c.args.memory.now.disk) (g.D.Disk.state c.read.new.self) = search rules in
+    (step_laws.read _ _ c.args.memory.now.pool same moves).makes
 
 pub returns-in-Err-clause-makes : goal.returns-in-Err-clause-makes
 returns-in-Err-clause-makes g c =
-    let same : RevealsSame (g.D.Disk.state c.args.swapper.now.disk) (g.D.Disk.state c.read.new.self) = search rules in
-    let moves : Moves (g.D.Disk.state c.args.swapper.now.disk) (g.D.Disk.state c.read.new.self) = search rules in
-    (step_laws.read _ _ c.args.swapper.now.pool same moves).makes
+    let same : RevealsSame (g.D.Disk.state c.args.memory.now.disk) (g.D.Disk.state c.read.new.self) = search rules in
+    let moves : Moves (g.D.Disk.state c.args.memory.now.disk) (g.D.Disk.state c.read.new.self) = search rules in
+    (step_laws.read _ _ c.args.memory.now.pool same moves).makes

@@ -17,30 +17,30 @@ returns-then-not-names-clause-stopped g c = inl (search rules)
 
 pub returns-in-Err-relabel-clause-stopped : goal.returns-in-Err-relabel-clause-stopped
 returns-in-Err-relabel-clause-stopped g c =
-    let old = g.D.Disk.state c.args.swapper.now.disk in
-    let mid = g.D.Disk.state c.read_label.new.swapper.disk in
-    let new = g.D.Disk.state c.relabel.new.swapper.disk in
+    let old = g.D.Disk.state c.args.memory.now.disk in
+    let mid = g.D.Disk.state c.read_label.new.memory.disk in
+    let new = g.D.Disk.state c.relabel.new.memory.disk in
     let there : HasLabel old c.args.sector c.in-Ok.found = search rules in
     let same : RevealsSame old mid = search rules in
     let read : Moves old mid = search rules in
-    let layout : IsLayout c.args.swapper.now.layout = search rules in
+    let layout : IsLayout c.args.memory.now.layout = search rules in
     let named : names c.in-Ok.found c.args.wanted ≡ true = search rules in
     inr (
-      had_one old mid c.args.swapper.now.pool c.args.sector c.in-Ok.found there same (went_by read) (ones_of c.args.wanted) named,
-      (freed_laws c.args.swapper.now.layout old mid new c.args.swapper.now.pool c.args.sector c.in-Ok.found layout (λ d revealed. g.met.D.Disk.whole c.args.swapper.now.disk d revealed ∙ c.requires.data.size) c.requires.data.first there same (went_by read) c.relabel.ensures.went c.args.wanted c.requires.of_file named).stopped c.in-Err-relabel.ensures.stopped,
+      had_one old mid c.args.memory.now.pool c.args.sector c.in-Ok.found there same (went_by read) (ones_of c.args.wanted) named,
+      (freed_laws c.args.memory.now.layout old mid new c.args.memory.now.pool c.args.sector c.in-Ok.found layout (λ d revealed. g.met.D.Disk.whole c.args.memory.now.disk d revealed ∙ c.requires.data.size) c.requires.data.first there same (went_by read) c.relabel.ensures.went c.args.wanted c.requires.of_file named).stopped c.in-Err-relabel.ensures.stopped,
     )
 
 pub returns-clause-freed : goal.returns-clause-freed
 returns-clause-freed g c =
-    let old = g.D.Disk.state c.args.swapper.now.disk in
-    let mid = g.D.Disk.state c.read_label.new.swapper.disk in
-    let new = g.D.Disk.state c.relabel.new.swapper.disk in
+    let old = g.D.Disk.state c.args.memory.now.disk in
+    let mid = g.D.Disk.state c.read_label.new.memory.disk in
+    let new = g.D.Disk.state c.relabel.new.memory.disk in
     let there : HasLabel old c.args.sector c.in-Ok.found = search rules in
     let same : RevealsSame old mid = search rules in
     let read : Moves old mid = search rules in
-    let layout : IsLayout c.args.swapper.now.layout = search rules in
+    let layout : IsLayout c.args.memory.now.layout = search rules in
     let named : names c.in-Ok.found c.args.wanted ≡ true = search rules in
-    (freed_laws c.args.swapper.now.layout old mid new c.args.swapper.now.pool c.args.sector c.in-Ok.found layout (λ d revealed. g.met.D.Disk.whole c.args.swapper.now.disk d revealed ∙ c.requires.data.size) c.requires.data.first there same (went_by read) c.relabel.ensures.went c.args.wanted c.requires.of_file named).made c.in-Ok-relabel.ensures.writes
+    (freed_laws c.args.memory.now.layout old mid new c.args.memory.now.pool c.args.sector c.in-Ok.found layout (λ d revealed. g.met.D.Disk.whole c.args.memory.now.disk d revealed ∙ c.requires.data.size) c.requires.data.first there same (went_by read) c.relabel.ensures.went c.args.wanted c.requires.of_file named).made c.in-Ok-relabel.ensures.writes
 
 pub returns-in-Err-clause-fails : goal.returns-in-Err-clause-fails
 returns-in-Err-clause-fails g c = record { sound = λ m stands one. search rules; cause = search rules; evidence_seen = search rules }
@@ -72,7 +72,7 @@ returns-then-not-names-clause-labels g c = record {
 
 pub returns-in-Err-relabel-clause-labels : goal.returns-in-Err-relabel-clause-labels
 returns-in-Err-relabel-clause-labels g c =
-    let there : HasLabel (g.D.Disk.state c.args.swapper.now.disk) c.args.sector c.in-Ok.found = search rules in
+    let there : HasLabel (g.D.Disk.state c.args.memory.now.disk) c.args.sector c.in-Ok.found = search rules in
     let named : names c.in-Ok.found c.args.wanted ≡ true = search rules in
     record {
       own = read_own c.args.sector c.in-Ok.found free_label there (of_page c.args.wanted c.in-Ok.found named) c.read_label.ensures.same c.in-Err-relabel.ensures.stopped;
@@ -81,7 +81,7 @@ returns-in-Err-relabel-clause-labels g c =
 
 pub returns-clause-labels : goal.returns-clause-labels
 returns-clause-labels g c =
-    let there : HasLabel (g.D.Disk.state c.args.swapper.now.disk) c.args.sector c.in-Ok.found = search rules in
+    let there : HasLabel (g.D.Disk.state c.args.memory.now.disk) c.args.sector c.in-Ok.found = search rules in
     let named : names c.in-Ok.found c.args.wanted ≡ true = search rules in
     record {
       own = read_own c.args.sector c.in-Ok.found free_label there (of_page c.args.wanted c.in-Ok.found named) c.read_label.ensures.same (inr c.in-Ok-relabel.ensures.writes);

@@ -17,34 +17,34 @@ returns-then-not-is_free-clause-stopped g c = inl (search rules)
 
 pub returns-in-Err-write_fresh-clause-stopped : goal.returns-in-Err-write_fresh-clause-stopped
 returns-in-Err-write_fresh-clause-stopped g c =
-    let old = g.D.Disk.state c.args.swapper.now.disk in
-    let mid = g.D.Disk.state c.read_label.new.swapper.disk in
-    let new = g.D.Disk.state c.write_fresh.new.swapper.disk in
+    let old = g.D.Disk.state c.args.memory.now.disk in
+    let mid = g.D.Disk.state c.read_label.new.memory.disk in
+    let new = g.D.Disk.state c.write_fresh.new.memory.disk in
     let there : HasLabel old c.args.sector c.in-Ok.found = search rules in
     let same : RevealsSame old mid = search rules in
     let read : Moves old mid = search rules in
     let moves : Moves mid new = search rules in
-    let layout : IsLayout c.args.swapper.now.layout = search rules in
+    let layout : IsLayout c.args.memory.now.layout = search rules in
     let free : is_free c.in-Ok.found ≡ true = search rules in
     let form : IsSector (c.args.label, zero_bytes) = fresh_in_form c.args.label (search rules) (search rules) (search rules) (search rules) (search rules) in
     inr (
-      had_one old mid c.args.swapper.now.pool c.args.sector c.in-Ok.found there same (went_by read) free_ones free,
-      (fresh_laws c.args.swapper.now.layout old mid new c.args.swapper.now.pool c.args.sector c.in-Ok.found layout (λ d revealed. g.met.D.Disk.whole c.args.swapper.now.disk d revealed ∙ c.requires.data.size) c.requires.data.first there same (went_by read) (went_by moves) c.args.label c.requires.form form free).stopped c.in-Err-write_fresh.ensures.writes,
+      had_one old mid c.args.memory.now.pool c.args.sector c.in-Ok.found there same (went_by read) free_ones free,
+      (fresh_laws c.args.memory.now.layout old mid new c.args.memory.now.pool c.args.sector c.in-Ok.found layout (λ d revealed. g.met.D.Disk.whole c.args.memory.now.disk d revealed ∙ c.requires.data.size) c.requires.data.first there same (went_by read) (went_by moves) c.args.label c.requires.form form free).stopped c.in-Err-write_fresh.ensures.writes,
     )
 
 pub returns-clause-made : goal.returns-clause-made
 returns-clause-made g c =
-    let old = g.D.Disk.state c.args.swapper.now.disk in
-    let mid = g.D.Disk.state c.read_label.new.swapper.disk in
-    let new = g.D.Disk.state c.write_fresh.new.swapper.disk in
+    let old = g.D.Disk.state c.args.memory.now.disk in
+    let mid = g.D.Disk.state c.read_label.new.memory.disk in
+    let new = g.D.Disk.state c.write_fresh.new.memory.disk in
     let there : HasLabel old c.args.sector c.in-Ok.found = search rules in
     let same : RevealsSame old mid = search rules in
     let read : Moves old mid = search rules in
     let moves : Moves mid new = search rules in
-    let layout : IsLayout c.args.swapper.now.layout = search rules in
+    let layout : IsLayout c.args.memory.now.layout = search rules in
     let free : is_free c.in-Ok.found ≡ true = search rules in
     let form : IsSector (c.args.label, zero_bytes) = fresh_in_form c.args.label (search rules) (search rules) (search rules) (search rules) (search rules) in
-    (fresh_laws c.args.swapper.now.layout old mid new c.args.swapper.now.pool c.args.sector c.in-Ok.found layout (λ d revealed. g.met.D.Disk.whole c.args.swapper.now.disk d revealed ∙ c.requires.data.size) c.requires.data.first there same (went_by read) (went_by moves) c.args.label c.requires.form form free).made c.in-Ok-write_fresh.ensures.writes
+    (fresh_laws c.args.memory.now.layout old mid new c.args.memory.now.pool c.args.sector c.in-Ok.found layout (λ d revealed. g.met.D.Disk.whole c.args.memory.now.disk d revealed ∙ c.requires.data.size) c.requires.data.first there same (went_by read) (went_by moves) c.args.label c.requires.form form free).made c.in-Ok-write_fresh.ensures.writes
 
 pub returns-in-Err-clause-own : goal.returns-in-Err-clause-own
 returns-in-Err-clause-own g c = λ other. relabels_own (same_own other c.read_label.ensures.same)
@@ -76,10 +76,10 @@ returns-in-Err-write_fresh-clause-fails g c = record { sound = λ m stands one. 
 
 pub returns-in-Err-write_fresh-clause-alone : goal.returns-in-Err-write_fresh-clause-alone
 returns-in-Err-write_fresh-clause-alone g c =
-    let old = g.D.Disk.state c.args.swapper.now.disk in
-    let mid = g.D.Disk.state c.read_label.new.swapper.disk in
+    let old = g.D.Disk.state c.args.memory.now.disk in
+    let mid = g.D.Disk.state c.read_label.new.memory.disk in
     let there : HasLabel old c.args.sector c.in-Ok.found = search rules in
     let same : RevealsSame old mid = search rules in
     let read : Moves old mid = search rules in
     let free : is_free c.in-Ok.found ≡ true = search rules in
-    fresh_alone c.args.sector c.args.label same (had_one old mid c.args.swapper.now.pool c.args.sector c.in-Ok.found there same (went_by read) free_ones free) c.in-Err-write_fresh.ensures.writes
+    fresh_alone c.args.sector c.args.label same (had_one old mid c.args.memory.now.pool c.args.sector c.in-Ok.found there same (went_by read) free_ones free) c.in-Err-write_fresh.ensures.writes

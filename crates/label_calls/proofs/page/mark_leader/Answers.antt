@@ -22,31 +22,31 @@ returns-then-not-names-clause-stopped g c = record { written = inl (search rules
 
 pub returns-in-Err-relabel-clause-stopped : goal.returns-in-Err-relabel-clause-stopped
 returns-in-Err-relabel-clause-stopped g c =
-    let old = g.D.Disk.state c.args.swapper.now.disk in
-    let mid = g.D.Disk.state c.read_label.new.swapper.disk in
-    let new = g.D.Disk.state c.relabel.new.swapper.disk in
+    let old = g.D.Disk.state c.args.memory.now.disk in
+    let mid = g.D.Disk.state c.read_label.new.memory.disk in
+    let new = g.D.Disk.state c.relabel.new.memory.disk in
     let there : HasLabel old c.args.sector c.in-Ok.found = search rules in
     let same : RevealsSame old mid = search rules in
     let read : Moves old mid = search rules in
-    let layout : IsLayout c.args.swapper.now.layout = search rules in
+    let layout : IsLayout c.args.memory.now.layout = search rules in
     let named : names c.in-Ok.found (record { id = c.args.id; page = leader_page }) ≡ true = search rules in
     let form : IsSector (with_mark c.args.mark c.in-Ok.found, zero_bytes) = fresh_in_form (with_mark c.args.mark c.in-Ok.found) (search rules) (search rules) (search rules) (search rules) (search rules) in
-    let laws = marked_laws c.args.swapper.now.layout old mid new c.args.swapper.now.pool c.args.sector c.in-Ok.found layout (λ d revealed. g.met.D.Disk.whole c.args.swapper.now.disk d revealed ∙ c.requires.data.size) c.requires.data.first there same (went_by read) c.relabel.ensures.went c.args.mark c.args.id c.requires.of_file form named in
+    let laws = marked_laws c.args.memory.now.layout old mid new c.args.memory.now.pool c.args.sector c.in-Ok.found layout (λ d revealed. g.met.D.Disk.whole c.args.memory.now.disk d revealed ∙ c.requires.data.size) c.requires.data.first there same (went_by read) c.relabel.ensures.went c.args.mark c.args.id c.requires.of_file form named in
     let either : RevealsSame mid new ⊎ RevealsWrite (write.LabelOnly c.args.sector (with_mark c.args.mark c.in-Ok.found)) mid new = search rules in
     record { written = inr (c.in-Ok.found, there, laws.stopped either); had = search rules }
 
 pub returns-clause-marked : goal.returns-clause-marked
 returns-clause-marked g c =
-    let old = g.D.Disk.state c.args.swapper.now.disk in
-    let mid = g.D.Disk.state c.read_label.new.swapper.disk in
-    let new = g.D.Disk.state c.relabel.new.swapper.disk in
+    let old = g.D.Disk.state c.args.memory.now.disk in
+    let mid = g.D.Disk.state c.read_label.new.memory.disk in
+    let new = g.D.Disk.state c.relabel.new.memory.disk in
     let there : HasLabel old c.args.sector c.in-Ok.found = search rules in
     let same : RevealsSame old mid = search rules in
     let read : Moves old mid = search rules in
-    let layout : IsLayout c.args.swapper.now.layout = search rules in
+    let layout : IsLayout c.args.memory.now.layout = search rules in
     let named : names c.in-Ok.found (record { id = c.args.id; page = leader_page }) ≡ true = search rules in
     let form : IsSector (with_mark c.args.mark c.in-Ok.found, zero_bytes) = fresh_in_form (with_mark c.args.mark c.in-Ok.found) (search rules) (search rules) (search rules) (search rules) (search rules) in
-    let laws = marked_laws c.args.swapper.now.layout old mid new c.args.swapper.now.pool c.args.sector c.in-Ok.found layout (λ d revealed. g.met.D.Disk.whole c.args.swapper.now.disk d revealed ∙ c.requires.data.size) c.requires.data.first there same (went_by read) c.relabel.ensures.went c.args.mark c.args.id c.requires.of_file form named in
+    let laws = marked_laws c.args.memory.now.layout old mid new c.args.memory.now.pool c.args.sector c.in-Ok.found layout (λ d revealed. g.met.D.Disk.whole c.args.memory.now.disk d revealed ∙ c.requires.data.size) c.requires.data.first there same (went_by read) c.relabel.ensures.went c.args.mark c.args.id c.requires.of_file form named in
     let made : RevealsWrite (write.LabelOnly c.args.sector (with_mark c.args.mark c.in-Ok.found)) mid new = search rules in
     (c.in-Ok.found, laws.made made)
 
@@ -80,7 +80,7 @@ returns-then-not-names-clause-labels g c = record {
 
 pub returns-in-Err-relabel-clause-labels : goal.returns-in-Err-relabel-clause-labels
 returns-in-Err-relabel-clause-labels g c =
-    let there : HasLabel (g.D.Disk.state c.args.swapper.now.disk) c.args.sector c.in-Ok.found = search rules in
+    let there : HasLabel (g.D.Disk.state c.args.memory.now.disk) c.args.sector c.in-Ok.found = search rules in
     let named : names c.in-Ok.found (record { id = c.args.id; page = leader_page }) ≡ true = search rules in
     record {
       own = read_own c.args.sector c.in-Ok.found _ there (of_page (record { id = c.args.id; page = leader_page }) c.in-Ok.found named) c.read_label.ensures.same c.in-Err-relabel.ensures.stopped;
@@ -89,7 +89,7 @@ returns-in-Err-relabel-clause-labels g c =
 
 pub returns-clause-labels : goal.returns-clause-labels
 returns-clause-labels g c =
-    let there : HasLabel (g.D.Disk.state c.args.swapper.now.disk) c.args.sector c.in-Ok.found = search rules in
+    let there : HasLabel (g.D.Disk.state c.args.memory.now.disk) c.args.sector c.in-Ok.found = search rules in
     let named : names c.in-Ok.found (record { id = c.args.id; page = leader_page }) ≡ true = search rules in
     record {
       own = read_own c.args.sector c.in-Ok.found _ there (of_page (record { id = c.args.id; page = leader_page }) c.in-Ok.found named) c.read_label.ensures.same (inr c.in-Ok-relabel.ensures.writes);

@@ -44,7 +44,7 @@ returns-in-Err-clause-fails g c =
     let last : (c.args.pages - (c.loop-k.k + 1)) < c.args.pages = omega (arith, below) in
     let place : ℕ → ℕ = λ k. c.args.sector + (c.args.pages - (k + 1)) in
     let wanted : Wanted = record { id = c.args.id; page = c.args.page + (c.args.pages - (c.loop-k.k + 1)) } in
-    fails_before place _ _ _ _ _ _ _ _ _ c.loop-k.k c.loop-k.invariant.0 (apart c.args.sector c.args.pages c.loop-k.k below) (AreRight (λ k. ones_of (record { id = c.args.id; page = c.args.page + k })) c.args.sector c.args.pages c.args.swapper.now.pool)
+    fails_before place _ _ _ _ _ _ _ _ _ c.loop-k.k c.loop-k.invariant.0 (apart c.args.sector c.args.pages c.loop-k.k below) (AreRight (λ k. ones_of (record { id = c.args.id; page = c.args.page + k })) c.args.sector c.args.pages c.args.memory.now.pool)
     (IsNotOf (place c.loop-k.k) wanted) (IsOneNotOf c.args.sector c.args.pages (λ k. record { id = c.args.id; page = c.args.page + k })) _ c.in-Err.halt
     (λ m right. (right.0, right.1 (c.args.pages - (c.loop-k.k + 1)) last)) (λ d evidence is. ((c.args.pages - (c.loop-k.k + 1)), last, is)) (not_of_before place _ _ _ _ _ _ _ _ _ c.loop-k.k c.loop-k.invariant.0 (apart c.args.sector c.args.pages c.loop-k.k below) wanted) c.in-Err.ensures.fails
 

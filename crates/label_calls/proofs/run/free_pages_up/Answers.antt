@@ -38,7 +38,7 @@ returns-in-Err-clause-fails g c =
     let below : c.loop-k.k < c.args.pages = search rules in
     let place : ℕ → ℕ = λ k. c.args.sector + k in
     let wanted : Wanted = record { id = c.args.id; page = c.args.page + c.loop-k.k } in
-    fails_before place _ _ _ _ _ _ _ _ _ c.loop-k.k c.loop-k.invariant.0 (apart c.args.sector c.loop-k.k) (AreRight (λ k. ones_of (record { id = c.args.id; page = c.args.page + k })) c.args.sector c.args.pages c.args.swapper.now.pool)
+    fails_before place _ _ _ _ _ _ _ _ _ c.loop-k.k c.loop-k.invariant.0 (apart c.args.sector c.loop-k.k) (AreRight (λ k. ones_of (record { id = c.args.id; page = c.args.page + k })) c.args.sector c.args.pages c.args.memory.now.pool)
     (IsNotOf (place c.loop-k.k) wanted) (IsOneNotOf c.args.sector c.args.pages (λ k. record { id = c.args.id; page = c.args.page + k })) _ c.in-Err.halt
     (λ m right. (right.0, right.1 c.loop-k.k below)) (λ d evidence is. (c.loop-k.k, below, is)) (not_of_before place _ _ _ _ _ _ _ _ _ c.loop-k.k c.loop-k.invariant.0 (apart c.args.sector c.loop-k.k) wanted) c.in-Err.ensures.fails
 

@@ -9,5 +9,5 @@ use Rattle.label_calls.proofs.run.free_pages_up.Given as goal
 
 abbrev pub invariant-loop-k : goal.invariant-loop-k
 invariant-loop-k g l =
-    IsSoFar (λ k. l.fn.sector + k) (λ k. write.LabelOnly (l.fn.sector + k) free_label) (λ k. ones_of (record { id = l.fn.id; page = l.fn.page + k })) (AreUncovered l.fn.swapper.pool l.fn.sector l.fn.pages)
-    (g.D.Disk.state l.fn.swapper.disk) l.fn.swapper.pool l.fn.swapper.layout (g.D.Disk.state l.swapper.disk) l.swapper.pool l.swapper.layout l.k × SyncsAround false (g.D.Disk.state l.fn.swapper.disk) (g.D.Disk.state l.swapper.disk)
+    IsSoFar (λ k. l.fn.sector + k) (λ k. write.LabelOnly (l.fn.sector + k) free_label) (λ k. ones_of (record { id = l.fn.id; page = l.fn.page + k })) (AreUncovered l.fn.memory.pool l.fn.sector l.fn.pages)
+    (g.D.Disk.state l.fn.memory.disk) l.fn.memory.pool l.fn.memory.layout (g.D.Disk.state l.memory.disk) l.memory.pool l.memory.layout l.k × SyncsAround false (g.D.Disk.state l.fn.memory.disk) (g.D.Disk.state l.memory.disk)

@@ -45,7 +45,7 @@ pub returns-in-Err-clause-fails : goal.returns-in-Err-clause-fails
 returns-in-Err-clause-fails g c =
     let below : c.loop-k.k < c.args.pages = search rules in
     let place : ℕ → ℕ = λ k. c.args.sector + k in
-    fails_before place _ _ _ _ _ _ _ _ _ c.loop-k.k c.loop-k.invariant (apart c.args.sector c.loop-k.k) (AreRight (λ k. free_ones) c.args.sector c.args.pages c.args.swapper.now.pool) (IsTaken (place c.loop-k.k)) (IsOneTaken c.args.sector c.args.pages) _ c.in-Err.halt
+    fails_before place _ _ _ _ _ _ _ _ _ c.loop-k.k c.loop-k.invariant (apart c.args.sector c.loop-k.k) (AreRight (λ k. free_ones) c.args.sector c.args.pages c.args.memory.now.pool) (IsTaken (place c.loop-k.k)) (IsOneTaken c.args.sector c.args.pages) _ c.in-Err.halt
     (λ m right. (right.0, right.1 c.loop-k.k below)) (λ d evidence is. (c.loop-k.k, below, is)) (taken_before place _ _ _ _ _ _ _ _ _ c.loop-k.k c.loop-k.invariant (apart c.args.sector c.loop-k.k)) c.in-Err.ensures.fails
 
 pub returns-clause-made : goal.returns-clause-made

@@ -9,5 +9,5 @@ use Rattle.label_calls.proofs.run.make_pages.Given as goal
 
 abbrev pub invariant-loop-k : goal.invariant-loop-k
 invariant-loop-k g l =
-    IsSoFar (λ k. l.fn.sector + k) (λ k. write.Whole (l.fn.sector + k) (page_label l.fn.id l.fn.kind (l.fn.page + k)) zero_bytes) (λ k. free_ones) (AreUncovered l.fn.swapper.pool l.fn.sector l.fn.pages)
-    (g.D.Disk.state l.fn.swapper.disk) l.fn.swapper.pool l.fn.swapper.layout (g.D.Disk.state l.swapper.disk) l.swapper.pool l.swapper.layout l.k
+    IsSoFar (λ k. l.fn.sector + k) (λ k. write.Whole (l.fn.sector + k) (page_label l.fn.id l.fn.kind (l.fn.page + k)) zero_bytes) (λ k. free_ones) (AreUncovered l.fn.memory.pool l.fn.sector l.fn.pages)
+    (g.D.Disk.state l.fn.memory.disk) l.fn.memory.pool l.fn.memory.layout (g.D.Disk.state l.memory.disk) l.memory.pool l.memory.layout l.k

@@ -111,3 +111,33 @@ returns-in-Err-finish-clause-full_same g c = λ b h. never_full _ _ c.in-Err-fin
 
 pub returns-in-Err-clause-broken : goal.returns-in-Err-clause-broken
 returns-in-Err-clause-broken g c = λ b h. malformed_wider _ _ c.in-Err.error (λ page broken. StopsInsertion.broken broken) (c.in-Err.ensures.broken b h)
+
+pub returns-in-Err-clause-kept : goal.returns-in-Err-clause-kept
+returns-in-Err-clause-kept g c = c.read_header.ensures.looks.kept
+
+pub returns-in-Err-clause-cost : goal.returns-in-Err-clause-cost
+returns-in-Err-clause-cost g c = omega (arith, c.read_header.ensures.looks.cost)
+
+pub returns-then-header-capacity-clause-kept : goal.returns-then-header-capacity-clause-kept
+returns-then-header-capacity-clause-kept g c = c.read_header.ensures.looks.kept
+
+pub returns-then-header-capacity-clause-cost : goal.returns-then-header-capacity-clause-cost
+returns-then-header-capacity-clause-cost g c = omega (arith, c.read_header.ensures.looks.cost)
+
+pub returns-in-Err-put_in-clause-kept : goal.returns-in-Err-put_in-clause-kept
+returns-in-Err-put_in-clause-kept g c = g.met.M.FlatMem.beside_through _ _ _ c.read_header.ensures.looks.kept c.put_in.ensures.works.kept
+
+pub returns-in-Err-put_in-clause-cost : goal.returns-in-Err-put_in-clause-cost
+returns-in-Err-put_in-clause-cost g c = omega (arith, c.read_header.ensures.looks.cost, c.put_in.ensures.works.cost)
+
+pub returns-in-Err-finish-clause-kept : goal.returns-in-Err-finish-clause-kept
+returns-in-Err-finish-clause-kept g c = g.met.M.FlatMem.beside_through _ _ _ (g.met.M.FlatMem.beside_through _ _ _ c.read_header.ensures.looks.kept c.put_in.ensures.works.kept) c.finish.ensures.works.kept
+
+pub returns-in-Err-finish-clause-cost : goal.returns-in-Err-finish-clause-cost
+returns-in-Err-finish-clause-cost g c = omega (arith, c.read_header.ensures.looks.cost, c.put_in.ensures.works.cost, c.finish.ensures.works.cost)
+
+pub returns-clause-kept : goal.returns-clause-kept
+returns-clause-kept g c = g.met.M.FlatMem.beside_through _ _ _ (g.met.M.FlatMem.beside_through _ _ _ c.read_header.ensures.looks.kept c.put_in.ensures.works.kept) c.finish.ensures.works.kept
+
+pub returns-clause-cost : goal.returns-clause-cost
+returns-clause-cost g c = omega (arith, c.read_header.ensures.looks.cost, c.put_in.ensures.works.cost, c.finish.ensures.works.cost)

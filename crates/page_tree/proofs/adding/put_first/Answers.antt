@@ -1,5 +1,6 @@
 use Rattle.std.proofs.Common.{◌*◌, ◌/◌, ◌≤◌, length, arith}
 use Rattle.page_tree.proofs.Low.{empty_open, first_put}
+use Rattle.page_tree.proofs.Calls.{works_as, looks_works, works_on}
 use Rattle.page_tree.proofs.adding.put_first.Goals as goal
 
 pub returns-clause-put : goal.returns-clause-put
@@ -13,3 +14,12 @@ returns-clause-put g c = λ b h records tree is.
 
 pub returns-in-Err-clause-on : goal.returns-in-Err-clause-on
 returns-in-Err-clause-on g c = λ b h way. c.in-Err.ensures.on g.row.E g.row.K 0 0 b b h (omega arith) way
+
+pub returns-in-Err-clause-works : goal.returns-in-Err-clause-works
+returns-in-Err-clause-works g c = works_as g.M.FlatMem (looks_works g.M.FlatMem c.take_page.ensures.looks) c.in-Err.ensures.looks.cause (omega (arith, c.take_page.ensures.looks.cost))
+
+pub returns-in-Err-store-clause-works : goal.returns-in-Err-store-clause-works
+returns-in-Err-store-clause-works g c = works_on g.M.FlatMem g.met.M.FlatMem.beside_through g.met.M.FlatMem.beside_itself g.met.M.FlatMem.accounted_wider c.take_page.ensures.looks.kept c.store.ensures.works c.in-Err-store.ensures.works.cause (omega (arith, c.take_page.ensures.looks.cost, c.store.ensures.works.cost))
+
+pub returns-clause-works : goal.returns-clause-works
+returns-clause-works g c = works_on g.M.FlatMem g.met.M.FlatMem.beside_through g.met.M.FlatMem.beside_itself g.met.M.FlatMem.accounted_wider c.take_page.ensures.looks.kept c.store.ensures.works tt (omega (arith, c.take_page.ensures.looks.cost, c.store.ensures.works.cost))

@@ -10,6 +10,8 @@ use Rattle.page_tree.specs.Broken.{Meets, StopsInsertion}
 use Rattle.page_tree.specs.Met.{IsMetPath}
 use Rattle.page_tree.proofs.FormLaws.{root_met}
 use Rattle.page_tree.proofs.WayLaws.{way_begun, goes_on, malformed_wider}
+use Rattle.page_tree.proofs.Calls.{works_as, looks_works, works_on}
+use Rattle.std.proofs.lemmas.Nat.{mul-le}
 use Rattle.page_tree.proofs.adding.put_in.Goals as goal
 
 pub returns-then-header-eq0-clause-put : goal.returns-then-header-eq0-clause-put
@@ -106,3 +108,18 @@ returns-clause-on g c = λ b h is.
     let top_now : Meets g.row.K b c.put_low.new.header.levels c.put_low.new.header.root = rw (c.put_low.ensures.keeps.levels, c.put_low.ensures.keeps.root) top in
     let path_now : IsMetPath g.row.K b c.put_low.new.header.levels 1 c.put_low.new.header.root c.descend.new.path.pages c.descend.new.path.index = rw (c.put_low.ensures.keeps.levels, c.put_low.ensures.keeps.root) met.1 in
     rw (size ∙ size_low) (c.climb.ensures.on g.row.E b on.0 on.1 on.2 top_now path_now)
+
+pub returns-then-header-eq0-clause-works : goal.returns-then-header-eq0-clause-works
+returns-then-header-eq0-clause-works g c = works_as g.M.FlatMem c.put_first.ensures.works c.put_first.ensures.works.cause (omega (arith, c.put_first.ensures.works.cost))
+
+pub returns-in-Err-clause-works : goal.returns-in-Err-clause-works
+returns-in-Err-clause-works g c = works_as g.M.FlatMem (looks_works g.M.FlatMem c.descend.ensures.looks) c.in-Err.ensures.looks.cause (omega (arith, c.descend.ensures.looks.cost, mul-le c.args.header.now.levels g.M.FlatMem.cost 6 g.M.FlatMem.cost c.requires.begins.levels_most (omega arith)))
+
+pub returns-in-Err-put_low-clause-works : goal.returns-in-Err-put_low-clause-works
+returns-in-Err-put_low-clause-works g c = works_on g.M.FlatMem g.met.M.FlatMem.beside_through g.met.M.FlatMem.beside_itself g.met.M.FlatMem.accounted_wider c.descend.ensures.looks.kept c.put_low.ensures.works c.in-Err-put_low.ensures.works.cause (omega (arith, c.descend.ensures.looks.cost, c.put_low.ensures.works.cost, mul-le c.args.header.now.levels g.M.FlatMem.cost 6 g.M.FlatMem.cost c.requires.begins.levels_most (omega arith)))
+
+pub returns-then-done-clause-works : goal.returns-then-done-clause-works
+returns-then-done-clause-works g c = works_on g.M.FlatMem g.met.M.FlatMem.beside_through g.met.M.FlatMem.beside_itself g.met.M.FlatMem.accounted_wider c.descend.ensures.looks.kept c.put_low.ensures.works tt (omega (arith, c.descend.ensures.looks.cost, c.put_low.ensures.works.cost, mul-le c.args.header.now.levels g.M.FlatMem.cost 6 g.M.FlatMem.cost c.requires.begins.levels_most (omega arith)))
+
+pub returns-clause-works : goal.returns-clause-works
+returns-clause-works g c = works_on g.M.FlatMem g.met.M.FlatMem.beside_through g.met.M.FlatMem.beside_itself g.met.M.FlatMem.accounted_wider (g.met.M.FlatMem.beside_through _ _ _ c.descend.ensures.looks.kept c.put_low.ensures.works.kept) c.climb.ensures.works c.climb.ensures.works.cause (omega (arith, c.descend.ensures.looks.cost, c.put_low.ensures.works.cost, c.climb.ensures.works.cost, mul-le c.args.header.now.levels g.M.FlatMem.cost 6 g.M.FlatMem.cost c.requires.begins.levels_most (omega arith)))

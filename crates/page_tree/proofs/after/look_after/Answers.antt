@@ -5,7 +5,7 @@ use Rattle.page_tree.specs.Tree.{node_at, IsRooted}
 use Rattle.page_tree.proofs.Descent.{rooted, next_here, next_there, none_there}
 use Rattle.page_tree.proofs.FormLaws.{root_met}
 use Rattle.page_tree.proofs.WalkLaws.{key_part, stands_at}
-use Rattle.page_tree.proofs.Calls.{looks_on}
+use Rattle.page_tree.proofs.Calls.{looks_on, looks_as}
 use Rattle.page_tree.proofs.after.look_after.Goals as goal
 
 pub returns-in-Err-descend-clause-answer : goal.returns-in-Err-descend-clause-answer
@@ -116,3 +116,12 @@ returns-in-None-clause-looks g c =
 pub returns-clause-looks : goal.returns-clause-looks
 returns-clause-looks g c =
     looks_on g.M.FlatMem g.met.M.FlatMem.beside_through g.met.M.FlatMem.beside_itself g.met.M.FlatMem.accounted_wider g.met.M.FlatMem.only_reads_through (λ b h. c.descend.ensures.looks.unchanged b (c.read_numbers.ensures.looks.unchanged b h)) (g.met.M.FlatMem.beside_through _ _ _ c.read_numbers.ensures.looks.kept c.descend.ensures.looks.kept) (g.met.M.FlatMem.only_reads_through _ _ _ c.read_numbers.ensures.looks.looked c.descend.ensures.looks.looked) c.next_leaf.ensures.looks tt (omega (arith, c.read_numbers.ensures.looks.cost, c.descend.ensures.looks.cost, c.next_leaf.ensures.looks.cost, mul-le c.in-Ok.header.levels g.M.FlatMem.cost 6 g.M.FlatMem.cost c.in-Ok.ensures.form.levels_most (omega arith)))
+
+pub returns-in-Err-clause-looks : goal.returns-in-Err-clause-looks
+returns-in-Err-clause-looks g c = looks_as g.M.FlatMem c.read_numbers.ensures.looks c.in-Err.ensures.looks.cause (omega (arith, c.read_numbers.ensures.looks.cost))
+
+pub returns-then-header-eq0-clause-looks : goal.returns-then-header-eq0-clause-looks
+returns-then-header-eq0-clause-looks g c = looks_as g.M.FlatMem c.read_numbers.ensures.looks tt (omega (arith, c.read_numbers.ensures.looks.cost))
+
+pub returns-in-Err-descend-clause-looks : goal.returns-in-Err-descend-clause-looks
+returns-in-Err-descend-clause-looks g c = looks_on g.M.FlatMem g.met.M.FlatMem.beside_through g.met.M.FlatMem.beside_itself g.met.M.FlatMem.accounted_wider g.met.M.FlatMem.only_reads_through c.read_numbers.ensures.looks.unchanged c.read_numbers.ensures.looks.kept c.read_numbers.ensures.looks.looked c.descend.ensures.looks c.in-Err-descend.ensures.looks.cause (omega (arith, c.read_numbers.ensures.looks.cost, c.descend.ensures.looks.cost, mul-le c.in-Ok.header.levels g.M.FlatMem.cost 6 g.M.FlatMem.cost c.in-Ok.ensures.form.levels_most (omega arith)))

@@ -2,6 +2,7 @@ use Rattle.std.proofs.Common.{inl, inr, ◌+◌, ◌/◌, arith, sym, ◌∙◌}
 use Rattle.std.proofs.lemmas.Bool.{ltb-true}
 use Rattle.page_tree.proofs.MetLaws.{inner_broken, leaf_broken, link_broken}
 use Rattle.page_tree.proofs.RebalancingLaws.{met_like, leaf_like, inner_like, child_of_like}
+use Rattle.page_tree.proofs.Calls.{looks_as}
 use Rattle.page_tree.proofs.beside.load_beside.Goals as goal
 use Rattle.page_tree.proofs.beside.load_beside.Goals.{then-page-ne1, else-page-ne1, then-page-ne2, else-page-ne2, else-level-eq1-via-then-level-eq1+else-count, else-level-eq1-via-else-level-eq1}
 
@@ -38,3 +39,15 @@ returns-then-count-2-clause-broken g c = λ root levels paths indexes b d h reba
             | else-page-ne2 w ↦ absurd (omega (arith, here.most, ltb-true (500 / (g.row.K + 4)) c.filled_of-count.result (sym w.value-is ∙ c.if-count-2.true), c.filled_of-count.ensures))
           ])
     ]
+
+pub returns-in-Err-clause-looks : goal.returns-in-Err-clause-looks
+returns-in-Err-clause-looks g c = looks_as g.M.FlatMem c.load.ensures.looks c.in-Err.ensures.looks.cause (omega (arith, c.load.ensures.looks.cost))
+
+pub returns-then-count-clause-looks : goal.returns-then-count-clause-looks
+returns-then-count-clause-looks g c = looks_as g.M.FlatMem c.load.ensures.looks tt (omega (arith, c.load.ensures.looks.cost))
+
+pub returns-then-count-2-clause-looks : goal.returns-then-count-2-clause-looks
+returns-then-count-2-clause-looks g c = looks_as g.M.FlatMem c.load.ensures.looks tt (omega (arith, c.load.ensures.looks.cost))
+
+pub returns-clause-looks : goal.returns-clause-looks
+returns-clause-looks g c = looks_as g.M.FlatMem c.load.ensures.looks tt (omega (arith, c.load.ensures.looks.cost))

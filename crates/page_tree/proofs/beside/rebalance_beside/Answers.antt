@@ -8,7 +8,7 @@ use Rattle.page_tree.specs.Broken.{Breaks}
 use Rattle.page_tree.specs.Rebalancing.{AreNotAbove}
 use Rattle.page_tree.proofs.WayLaws.{from_memory}
 use Rattle.page_tree.proofs.RebalancingLaws.{up_met, up_form, child_of_like, not_above_turned}
-use Rattle.page_tree.proofs.Calls.{works_on}
+use Rattle.page_tree.proofs.Calls.{works_on, works_as, looks_works}
 use Rattle.page_tree.proofs.beside.rebalance_beside.Goals as goal
 
 pub redistribute_page-requires : goal.redistribute_page-requires
@@ -151,3 +151,15 @@ returns-in-Err-redistribute_page-2-clause-on g c = λ root beside paths indexes 
     let left_is : link_at g.row.K c.args.above.now beside ≡ c.in-Ok-load_beside.left = ap (link_at g.row.K c.args.above.now) (beside_is.after (omega (arith, c.if-child-eq0.false))) ∙ sym c.in-Ok-load_beside.ensures.child.linked in
     let apart_now = not_above_turned paths c.args.child.level c.args.header.now.levels c.args.child.at c.in-Ok-load_beside.left (subst (AreNotAbove paths c.args.child.level c.args.header.now.levels c.args.child.at) left_is apart) in
     from_memory (Breaks g.row.E g.row.K (g.M.FlatMem.size c.args.mem.now / 512) b) c.in-Err-redistribute_page-2.error (c.in-Err-redistribute_page-2.ensures.on root c.args.header.now.levels paths indexes b d (c.load_beside-2.ensures.looks.unchanged d h) rebalancing c.requires.some left_met at_met apart_now)
+
+pub returns-in-Err-clause-works : goal.returns-in-Err-clause-works
+returns-in-Err-clause-works g c = works_as g.M.FlatMem (looks_works g.M.FlatMem c.load_beside.ensures.looks) c.in-Err.ensures.looks.cause (omega (arith, c.load_beside.ensures.looks.cost))
+
+pub returns-in-Err-load_beside-clause-works : goal.returns-in-Err-load_beside-clause-works
+returns-in-Err-load_beside-clause-works g c = works_as g.M.FlatMem (looks_works g.M.FlatMem c.load_beside-2.ensures.looks) c.in-Err-load_beside.ensures.looks.cause (omega (arith, c.load_beside-2.ensures.looks.cost))
+
+pub returns-in-Ok-redistribute_page-clause-works : goal.returns-in-Ok-redistribute_page-clause-works
+returns-in-Ok-redistribute_page-clause-works g c = works_on g.M.FlatMem g.met.M.FlatMem.beside_through g.met.M.FlatMem.beside_itself g.met.M.FlatMem.accounted_wider c.load_beside.ensures.looks.kept c.redistribute_page.ensures.works tt (omega (arith, c.load_beside.ensures.looks.cost, c.redistribute_page.ensures.works.cost))
+
+pub returns-in-Ok-redistribute_page-2-clause-works : goal.returns-in-Ok-redistribute_page-2-clause-works
+returns-in-Ok-redistribute_page-2-clause-works g c = works_on g.M.FlatMem g.met.M.FlatMem.beside_through g.met.M.FlatMem.beside_itself g.met.M.FlatMem.accounted_wider c.load_beside-2.ensures.looks.kept c.redistribute_page-2.ensures.works tt (omega (arith, c.load_beside-2.ensures.looks.cost, c.redistribute_page-2.ensures.works.cost))

@@ -1,9 +1,10 @@
-use Rattle.std.proofs.Common.{ℕ, ◌+◌, ◌-◌, ◌/◌, ◌<◌, [], ◌∷◌, ◌++◌, length, arith, sym, ◌∙◌, ap, subst}
+use Rattle.std.proofs.Common.{ℕ, ◌+◌, ◌-◌, ◌/◌, ◌<◌, [], ◌∷◌, ◌++◌, length, arith, refl, sym, ◌∙◌, ap, subst}
 use Rattle.page_tree.specs.Page.{page_at, filled}
 use Rattle.page_tree.specs.Tree.{node_at, before}
 use Rattle.page_tree.specs.Tree.{IsRooted}
 use Rattle.page_tree.proofs.FormLaws.{root_met}
 use Rattle.page_tree.proofs.PlacedLaws.{placed_leaf, few_leaves, past_last, rest_after, walks}
+use Rattle.page_tree.proofs.Calls.{looks_as, looks_on, walk_done, walk_most}
 use Rattle.page_tree.proofs.WalkedLaws.{fewer_passed}
 use Rattle.page_tree.proofs.MetLaws.{met_after}
 use Rattle.page_tree.proofs.IndexedLaws.{walked_indexed, short_of, crowded_by}
@@ -166,3 +167,65 @@ returns-clause-missing g c = λ b h is same.
     let read = c.in-Ok.ensures.read b h in
     let was = c.leaves.invariant.walked b revealed c.args.header.root start read in
     crowded_by g.row.K b c.args.header.levels c.args.header.root is.levels_is is.root_is g.row.E _ c.args.index was.0 (fewer_passed g.row.K b c.args.header.levels c.args.header.root _ _ c.leaves.at was.0 c.requires.rooted.some was.1) (omega (arith, was.2, c.leaves-test.false, c.len.ensures))
+
+pub returns-in-Err-clause-looks : goal.returns-in-Err-clause-looks
+returns-in-Err-clause-looks g c =
+    looks_as g.M.FlatMem c.first_leaf.ensures.looks c.in-Err.ensures.looks.cause
+    (walk_done _ _ _ 0 (g.M.FlatMem.size c.args.mem.now / 512) g.M.FlatMem.cost c.first_leaf.ensures.looks.cost (omega arith) (omega arith))
+
+pub leaves-init : goal.leaves-init
+leaves-init g c = record {
+  led = λ b h records nodes rooted start. (start, omega arith);
+  walked = λ b h root start read. ([], start, refl, omega arith);
+  path = rw (g.met.M.FlatMem.same_size _ _ c.first_leaf.ensures.looks.kept) at c.in-Ok.ensures.path;
+  inside = rw (g.met.M.FlatMem.same_size _ _ c.first_leaf.ensures.looks.kept) at c.in-Ok.ensures.inside;
+  few = omega arith;
+  form = c.in-Ok.ensures.form;
+  read = λ b h read. read;
+  unchanged = λ b h. h;
+  kept = g.met.M.FlatMem.beside_itself _;
+  looked = g.met.M.FlatMem.only_reads_itself _;
+  cost = omega arith;
+}
+
+pub returns-then-rest-count-clause-looks : goal.returns-then-rest-count-clause-looks
+returns-then-rest-count-clause-looks g c = record {
+  unchanged = λ b h. c.leaves.invariant.unchanged b (c.first_leaf.ensures.looks.unchanged b h);
+  kept = g.met.M.FlatMem.beside_through _ _ _ c.first_leaf.ensures.looks.kept c.leaves.invariant.kept;
+  looked = g.met.M.FlatMem.only_reads_through _ _ _ c.first_leaf.ensures.looks.looked c.leaves.invariant.looked;
+  cause = tt;
+  cost = walk_done _ _ _ c.leaves.passed (g.M.FlatMem.size c.args.mem.now / 512) g.M.FlatMem.cost c.first_leaf.ensures.looks.cost c.leaves.invariant.cost (omega (arith, c.leaves.invariant.few, c.len.ensures));
+}
+
+pub returns-in-Err-next_leaf-clause-looks : goal.returns-in-Err-next_leaf-clause-looks
+returns-in-Err-next_leaf-clause-looks g c =
+    looks_on g.M.FlatMem g.met.M.FlatMem.beside_through g.met.M.FlatMem.beside_itself g.met.M.FlatMem.accounted_wider g.met.M.FlatMem.only_reads_through (λ b h. c.leaves.invariant.unchanged b (c.first_leaf.ensures.looks.unchanged b h)) (g.met.M.FlatMem.beside_through _ _ _ c.first_leaf.ensures.looks.kept c.leaves.invariant.kept) (g.met.M.FlatMem.only_reads_through _ _ _ c.first_leaf.ensures.looks.looked c.leaves.invariant.looked)
+    c.next_leaf.ensures.looks c.in-Err-next_leaf.ensures.looks.cause
+    (walk_most _ _ _ c.leaves.passed (g.M.FlatMem.size c.args.mem.now / 512) g.M.FlatMem.cost c.first_leaf.ensures.looks.cost c.leaves.invariant.cost _ c.next_leaf.ensures.looks.cost (omega (arith, c.leaves-test.true, c.len.ensures, c.requires.sized.small)))
+
+pub returns-in-None-clause-looks : goal.returns-in-None-clause-looks
+returns-in-None-clause-looks g c =
+    looks_on g.M.FlatMem g.met.M.FlatMem.beside_through g.met.M.FlatMem.beside_itself g.met.M.FlatMem.accounted_wider g.met.M.FlatMem.only_reads_through (λ b h. c.leaves.invariant.unchanged b (c.first_leaf.ensures.looks.unchanged b h)) (g.met.M.FlatMem.beside_through _ _ _ c.first_leaf.ensures.looks.kept c.leaves.invariant.kept) (g.met.M.FlatMem.only_reads_through _ _ _ c.first_leaf.ensures.looks.looked c.leaves.invariant.looked)
+    c.next_leaf.ensures.looks tt
+    (walk_most _ _ _ c.leaves.passed (g.M.FlatMem.size c.args.mem.now / 512) g.M.FlatMem.cost c.first_leaf.ensures.looks.cost c.leaves.invariant.cost _ c.next_leaf.ensures.looks.cost (omega (arith, c.leaves-test.true, c.len.ensures, c.requires.sized.small)))
+
+pub returns-clause-looks : goal.returns-clause-looks
+returns-clause-looks g c = record {
+  unchanged = λ b h. c.leaves.invariant.unchanged b (c.first_leaf.ensures.looks.unchanged b h);
+  kept = g.met.M.FlatMem.beside_through _ _ _ c.first_leaf.ensures.looks.kept c.leaves.invariant.kept;
+  looked = g.met.M.FlatMem.only_reads_through _ _ _ c.first_leaf.ensures.looks.looked c.leaves.invariant.looked;
+  cause = tt;
+  cost = walk_done _ _ _ c.leaves.passed (g.M.FlatMem.size c.args.mem.now / 512) g.M.FlatMem.cost c.first_leaf.ensures.looks.cost c.leaves.invariant.cost (omega (arith, c.leaves.invariant.few, c.len.ensures));
+}
+
+pub returns-then-rest-count-clause-inside : goal.returns-then-rest-count-clause-inside
+returns-then-rest-count-clause-inside g c = (
+  rw (← (g.met.M.FlatMem.same_size _ _ c.first_leaf.ensures.looks.kept)) at c.leaves.invariant.inside,
+  omega (arith, c.if-rest-count.true, c.filled_of-count.ensures),
+)
+
+pub returns-then-rest-count-clause-path : goal.returns-then-rest-count-clause-path
+returns-then-rest-count-clause-path g c = rw (← (g.met.M.FlatMem.same_size _ _ c.first_leaf.ensures.looks.kept)) at c.leaves.invariant.path
+
+pub returns-then-rest-count-clause-read : goal.returns-then-rest-count-clause-read
+returns-then-rest-count-clause-read g c = λ b h. c.leaves.invariant.read b (c.first_leaf.ensures.looks.unchanged b h) (c.in-Ok.ensures.read b h)

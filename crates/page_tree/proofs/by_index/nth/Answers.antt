@@ -1,12 +1,12 @@
-use Rattle.std.proofs.Common.{inl, inr, ℕ, ◌/◌, ◌<◌, List, arith, refl, sym, ◌∙◌, ap, subst}
+use Rattle.std.proofs.Common.{inl, inr, ℕ, ◌/◌, ◌<◌, List, arith, refl, sym, ◌∙◌, ap, subst, ◌*◌}
 use Rattle.flat_mem.specs.Order.{entry_at}
 use Rattle.page_tree.specs.Page.{record_at}
 use Rattle.page_tree.specs.Tree.{IsTree}
 use Rattle.page_tree.proofs.Replaced.{sector_state}
 use Rattle.page_tree.proofs.PlacedLaws.{placed_entry}
-use Rattle.page_tree.proofs.CountLaws.{past_memory, broken_or, none_at, bare_broken, walk_spends}
+use Rattle.page_tree.proofs.CountLaws.{past_memory, broken_or, none_at, bare_broken, walk_spends, spends_less}
 use Rattle.page_tree.proofs.IndexedLaws.{bare_misses}
-use Rattle.page_tree.proofs.Calls.{looks_on}
+use Rattle.page_tree.proofs.Calls.{looks_on, looks_as}
 use Rattle.page_tree.proofs.by_index.nth.Goals as goal
 
 pub returns-in-Err-clause-answer : goal.returns-in-Err-clause-answer
@@ -94,3 +94,12 @@ returns-then-header-eq0-clause-missing g c = λ b h same. bare_misses g.row.E g.
 pub returns-in-Err-find_place-clause-missing : goal.returns-in-Err-find_place-clause-missing
 returns-in-Err-find_place-clause-missing g c = λ b h.
     rw (g.met.M.FlatMem.same_size _ _ c.read_header.ensures.looks.kept) (c.in-Err-find_place.ensures.missing b (c.read_header.ensures.looks.unchanged b h) (c.in-Ok.ensures.fields b h))
+
+pub returns-in-Err-clause-looks : goal.returns-in-Err-clause-looks
+returns-in-Err-clause-looks g c = looks_as g.M.FlatMem c.read_header.ensures.looks c.in-Err.ensures.looks.cause (spends_less _ _ 1 (12 * (g.M.FlatMem.size c.args.mem.now / 512)) g.M.FlatMem.cost (omega (arith, c.read_header.ensures.looks.cost)) (omega (arith, c.requires.sized.some_pages)))
+
+pub returns-then-index-header-clause-looks : goal.returns-then-index-header-clause-looks
+returns-then-index-header-clause-looks g c = looks_as g.M.FlatMem c.read_header.ensures.looks tt (spends_less _ _ 1 (12 * (g.M.FlatMem.size c.args.mem.now / 512)) g.M.FlatMem.cost (omega (arith, c.read_header.ensures.looks.cost)) (omega (arith, c.requires.sized.some_pages)))
+
+pub returns-then-header-eq0-clause-looks : goal.returns-then-header-eq0-clause-looks
+returns-then-header-eq0-clause-looks g c = looks_as g.M.FlatMem c.read_header.ensures.looks tt (spends_less _ _ 1 (12 * (g.M.FlatMem.size c.args.mem.now / 512)) g.M.FlatMem.cost (omega (arith, c.read_header.ensures.looks.cost)) (omega (arith, c.requires.sized.some_pages)))

@@ -4,6 +4,7 @@ use Rattle.page_tree.specs.Page.{IsInner}
 use Rattle.page_tree.specs.Climb.{child_item, IsClosed}
 use Rattle.page_tree.proofs.StepLaws.{can_take}
 use Rattle.page_tree.proofs.Grown.{grow_closed, seventh}
+use Rattle.page_tree.proofs.Calls.{works_as, looks_works, works_on}
 use Rattle.page_tree.proofs.climb.grow.Goals as goal
 
 pub returns-then-header-ge6-clause-grown : goal.returns-then-header-ge6-clause-grown
@@ -32,3 +33,12 @@ returns-clause-grown g c = λ e b h records level paths index widths capacity at
 
 pub returns-in-Err-clause-on : goal.returns-in-Err-clause-on
 returns-in-Err-clause-on g c = λ e b d h way six. c.in-Err.ensures.on e g.row.K c.args.header.now.levels c.args.header.now.levels b d h (omega (arith, c.if-header-ge6.false)) way
+
+pub returns-in-Err-clause-works : goal.returns-in-Err-clause-works
+returns-in-Err-clause-works g c = works_as g.M.FlatMem (looks_works g.M.FlatMem c.take_page.ensures.looks) c.in-Err.ensures.looks.cause (omega (arith, c.take_page.ensures.looks.cost))
+
+pub returns-in-Err-store-clause-works : goal.returns-in-Err-store-clause-works
+returns-in-Err-store-clause-works g c = works_on g.M.FlatMem g.met.M.FlatMem.beside_through g.met.M.FlatMem.beside_itself g.met.M.FlatMem.accounted_wider c.take_page.ensures.looks.kept c.store.ensures.works c.in-Err-store.ensures.works.cause (omega (arith, c.take_page.ensures.looks.cost, c.store.ensures.works.cost))
+
+pub returns-clause-works : goal.returns-clause-works
+returns-clause-works g c = works_on g.M.FlatMem g.met.M.FlatMem.beside_through g.met.M.FlatMem.beside_itself g.met.M.FlatMem.accounted_wider c.take_page.ensures.looks.kept c.store.ensures.works tt (omega (arith, c.take_page.ensures.looks.cost, c.store.ensures.works.cost))

@@ -1,9 +1,9 @@
-use Rattle.std.proofs.Common.{inl, inr, ℕ, ◌/◌, arith, refl, sym, ◌∙◌, subst}
+use Rattle.std.proofs.Common.{inl, inr, ℕ, ◌/◌, arith, refl, sym, ◌∙◌, subst, ◌*◌}
 use Rattle.page_tree.specs.Tree.{IsTree}
 use Rattle.page_tree.specs.Placed.{IsSetAt}
-use Rattle.page_tree.proofs.CountLaws.{past_memory, broken_or, none_at, bare_broken, walk_spends}
+use Rattle.page_tree.proofs.CountLaws.{past_memory, broken_or, none_at, bare_broken, walk_spends, spends_less}
 use Rattle.page_tree.proofs.IndexedLaws.{bare_misses}
-use Rattle.page_tree.proofs.Calls.{works_on}
+use Rattle.page_tree.proofs.Calls.{works_on, works_as, looks_works}
 use Rattle.page_tree.proofs.edit_by_index.replace.Goals as goal
 
 pub returns-in-Err-clause-answer : goal.returns-in-Err-clause-answer
@@ -78,3 +78,27 @@ returns-then-header-eq0-clause-missing g c = λ b h same. bare_misses g.row.E g.
 pub returns-in-Err-set_in-clause-missing : goal.returns-in-Err-set_in-clause-missing
 returns-in-Err-set_in-clause-missing g c = λ b h.
     rw (g.met.M.FlatMem.same_size _ _ c.read_header.ensures.looks.kept) (c.in-Err-set_in.ensures.missing b (c.read_header.ensures.looks.unchanged b h) (c.in-Ok.ensures.fields b h))
+
+pub returns-in-Err-clause-works : goal.returns-in-Err-clause-works
+returns-in-Err-clause-works g c = works_as g.M.FlatMem (looks_works g.M.FlatMem c.read_header.ensures.looks) c.in-Err.ensures.looks.cause (spends_less _ _ 1 (12 * (g.M.FlatMem.size c.args.mem.now / 512)) g.M.FlatMem.cost (omega (arith, c.read_header.ensures.looks.cost)) (omega (arith, c.requires.sized.some_pages)))
+
+pub returns-then-index-header-clause-works : goal.returns-then-index-header-clause-works
+returns-then-index-header-clause-works g c = works_as g.M.FlatMem (looks_works g.M.FlatMem c.read_header.ensures.looks) tt (spends_less _ _ 1 (12 * (g.M.FlatMem.size c.args.mem.now / 512)) g.M.FlatMem.cost (omega (arith, c.read_header.ensures.looks.cost)) (omega (arith, c.requires.sized.some_pages)))
+
+pub returns-then-header-eq0-clause-works : goal.returns-then-header-eq0-clause-works
+returns-then-header-eq0-clause-works g c = works_as g.M.FlatMem (looks_works g.M.FlatMem c.read_header.ensures.looks) tt (spends_less _ _ 1 (12 * (g.M.FlatMem.size c.args.mem.now / 512)) g.M.FlatMem.cost (omega (arith, c.read_header.ensures.looks.cost)) (omega (arith, c.requires.sized.some_pages)))
+
+pub returns-in-Err-clause-past_same : goal.returns-in-Err-clause-past_same
+returns-in-Err-clause-past_same g c = λ b h past. c.read_header.ensures.looks.unchanged b h
+
+pub returns-then-index-header-clause-past_same : goal.returns-then-index-header-clause-past_same
+returns-then-index-header-clause-past_same g c = λ b h past. c.read_header.ensures.looks.unchanged b h
+
+pub returns-then-header-eq0-clause-past_same : goal.returns-then-header-eq0-clause-past_same
+returns-then-header-eq0-clause-past_same g c = λ b h past. c.read_header.ensures.looks.unchanged b h
+
+pub returns-in-Ok-set_in-clause-past_same : goal.returns-in-Ok-set_in-clause-past_same
+returns-in-Ok-set_in-clause-past_same g c = λ b h past. absurd (omega (arith, past, (c.in-Ok.ensures.fields b h).count_is, c.if-index-header.false))
+
+pub returns-in-Err-set_in-clause-past_same : goal.returns-in-Err-set_in-clause-past_same
+returns-in-Err-set_in-clause-past_same g c = λ b h past. absurd (omega (arith, past, (c.in-Ok.ensures.fields b h).count_is, c.if-index-header.false))

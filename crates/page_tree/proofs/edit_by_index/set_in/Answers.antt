@@ -7,6 +7,8 @@ use Rattle.page_tree.specs.Climb.{IsHead}
 use Rattle.page_tree.proofs.Replaced.{sector_state, set_tree}
 use Rattle.page_tree.proofs.PlacedLaws.{placed_entry}
 use Rattle.page_tree.proofs.IndexedLaws.{written_in_page, record_fits}
+use Rattle.page_tree.proofs.Calls.{works_as, looks_works, works_on}
+use Rattle.page_tree.proofs.CountLaws.{spends_less}
 use Rattle.page_tree.proofs.edit_by_index.set_in.Goals as goal
 
 pub returns-in-Err-clause-set : goal.returns-in-Err-clause-set
@@ -48,3 +50,12 @@ returns-in-Ok-store-clause-written g c = λ b h is.
       place = c.in-Ok.ensures.indexed b h is;
       now = subst (g.M.FlatMem.reveals c.store.new.mem) bytes_are (c.in-Ok-store.ensures.written b revealed);
     }
+
+pub returns-in-Err-clause-works : goal.returns-in-Err-clause-works
+returns-in-Err-clause-works g c = works_as g.M.FlatMem (looks_works g.M.FlatMem c.find_place.ensures.looks) c.in-Err.ensures.looks.cause (spends_less _ _ (6 + 11 * (g.M.FlatMem.size c.args.mem.now / 512)) (7 + 11 * (g.M.FlatMem.size c.args.mem.now / 512)) g.M.FlatMem.cost c.find_place.ensures.looks.cost (omega arith))
+
+pub returns-in-Ok-store-clause-works : goal.returns-in-Ok-store-clause-works
+returns-in-Ok-store-clause-works g c = works_on g.M.FlatMem g.met.M.FlatMem.beside_through g.met.M.FlatMem.beside_itself g.met.M.FlatMem.accounted_wider c.find_place.ensures.looks.kept c.store.ensures.works tt (spends_less _ _ (6 + 11 * (g.M.FlatMem.size c.args.mem.now / 512) + 1) (7 + 11 * (g.M.FlatMem.size c.args.mem.now / 512)) g.M.FlatMem.cost (omega (arith, c.find_place.ensures.looks.cost, c.store.ensures.works.cost)) (omega arith))
+
+pub returns-in-Err-store-clause-works : goal.returns-in-Err-store-clause-works
+returns-in-Err-store-clause-works g c = works_on g.M.FlatMem g.met.M.FlatMem.beside_through g.met.M.FlatMem.beside_itself g.met.M.FlatMem.accounted_wider c.find_place.ensures.looks.kept c.store.ensures.works c.in-Err-store.ensures.works.cause (spends_less _ _ (6 + 11 * (g.M.FlatMem.size c.args.mem.now / 512) + 1) (7 + 11 * (g.M.FlatMem.size c.args.mem.now / 512)) g.M.FlatMem.cost (omega (arith, c.find_place.ensures.looks.cost, c.store.ensures.works.cost)) (omega arith))

@@ -6,7 +6,7 @@ use Rattle.page_tree.proofs.PlacedLaws.{few_leaves, walks}
 use Rattle.page_tree.proofs.WalkedLaws.{fewer_passed}
 use Rattle.page_tree.proofs.CountLaws.{leaves_more, crowd_broken}
 use Rattle.page_tree.proofs.CountedLaws.{leaf_room_most, led_counted, led_all, led_low, led_total}
-use Rattle.page_tree.proofs.Calls.{looks_on, walk_done, walk_most}
+use Rattle.page_tree.proofs.Calls.{looks_on, walk_done, walk_most, looks_as}
 use Rattle.page_tree.proofs.last_at_most.count_to.Goals as goal
 
 pub leaves-init : goal.leaves-init
@@ -136,4 +136,19 @@ returns-clause-looks g c = record {
   looked = g.met.M.FlatMem.only_reads_through _ _ _ c.first_leaf.ensures.looks.looked c.leaves.invariant.looked;
   cause = tt;
   cost = walk_done _ _ _ c.leaves.passed (g.M.FlatMem.size c.args.mem.now / 512) g.M.FlatMem.cost c.first_leaf.ensures.looks.cost c.leaves.invariant.cost (omega (arith, c.leaves.invariant.few, c.len.ensures, c.requires.sized.small));
+}
+
+pub returns-in-Err-clause-looks : goal.returns-in-Err-clause-looks
+returns-in-Err-clause-looks g c = looks_as g.M.FlatMem c.first_leaf.ensures.looks c.in-Err.ensures.looks.cause (walk_done _ _ _ 0 (g.M.FlatMem.size c.args.mem.now / 512) g.M.FlatMem.cost c.first_leaf.ensures.looks.cost (omega arith) (omega arith))
+
+pub returns-in-None-clause-looks : goal.returns-in-None-clause-looks
+returns-in-None-clause-looks g c = looks_on g.M.FlatMem g.met.M.FlatMem.beside_through g.met.M.FlatMem.beside_itself g.met.M.FlatMem.accounted_wider g.met.M.FlatMem.only_reads_through (λ b h. c.leaves.invariant.unchanged b (c.first_leaf.ensures.looks.unchanged b h)) (g.met.M.FlatMem.beside_through _ _ _ c.first_leaf.ensures.looks.kept c.leaves.invariant.kept) (g.met.M.FlatMem.only_reads_through _ _ _ c.first_leaf.ensures.looks.looked c.leaves.invariant.looked) c.next_leaf.ensures.looks tt (walk_most _ _ _ c.leaves.passed (g.M.FlatMem.size c.args.mem.now / 512) g.M.FlatMem.cost c.first_leaf.ensures.looks.cost c.leaves.invariant.cost _ c.next_leaf.ensures.looks.cost (omega (arith, c.leaves-test.true, c.len.ensures, c.requires.sized.small)))
+
+pub returns-then-place-count-clause-looks : goal.returns-then-place-count-clause-looks
+returns-then-place-count-clause-looks g c = record {
+  unchanged = λ b h. c.leaves.invariant.unchanged b (c.first_leaf.ensures.looks.unchanged b h);
+  kept = g.met.M.FlatMem.beside_through _ _ _ c.first_leaf.ensures.looks.kept c.leaves.invariant.kept;
+  looked = g.met.M.FlatMem.only_reads_through _ _ _ c.first_leaf.ensures.looks.looked c.leaves.invariant.looked;
+  cause = tt;
+  cost = walk_done _ _ _ c.leaves.passed (g.M.FlatMem.size c.args.mem.now / 512) g.M.FlatMem.cost c.first_leaf.ensures.looks.cost c.leaves.invariant.cost (omega (arith, c.leaves.invariant.few, c.len.ensures));
 }

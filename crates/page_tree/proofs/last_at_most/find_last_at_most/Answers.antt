@@ -1,10 +1,10 @@
-use Rattle.std.proofs.Common.{ℕ, ◌/◌, arith, sym, subst}
+use Rattle.std.proofs.Common.{ℕ, ◌/◌, arith, sym, subst, ◌*◌}
 use Rattle.page_tree.specs.Tree.{IsTree}
 use Rattle.page_tree.proofs.Descent.{no_records}
 use Rattle.page_tree.proofs.Replaced.{sector_state}
-use Rattle.page_tree.proofs.CountLaws.{walk_spends}
+use Rattle.page_tree.proofs.CountLaws.{walk_spends, spends_less}
 use Rattle.page_tree.proofs.CountedLaws.{counted_none, counted_last}
-use Rattle.page_tree.proofs.Calls.{looks_on}
+use Rattle.page_tree.proofs.Calls.{looks_on, looks_as}
 use Rattle.page_tree.proofs.last_at_most.find_last_at_most.Goals as goal
 
 pub returns-then-header-eq0-clause-answer : goal.returns-then-header-eq0-clause-answer
@@ -42,3 +42,9 @@ returns-clause-answer g c = λ b h records tree.
 pub returns-clause-looks : goal.returns-clause-looks
 returns-clause-looks g c =
     looks_on g.M.FlatMem g.met.M.FlatMem.beside_through g.met.M.FlatMem.beside_itself g.met.M.FlatMem.accounted_wider g.met.M.FlatMem.only_reads_through c.read_header.ensures.looks.unchanged c.read_header.ensures.looks.kept c.read_header.ensures.looks.looked c.count_to.ensures.looks tt (walk_spends _ _ _ _ _ 6 12 g.M.FlatMem.cost c.read_header.ensures.looks.cost c.count_to.ensures.looks.cost (g.met.M.FlatMem.same_size _ _ c.read_header.ensures.looks.kept) (omega (arith, c.requires.sized.some_pages)))
+
+pub returns-in-Err-clause-looks : goal.returns-in-Err-clause-looks
+returns-in-Err-clause-looks g c = looks_as g.M.FlatMem c.read_header.ensures.looks c.in-Err.ensures.looks.cause (spends_less _ _ 1 (12 * (g.M.FlatMem.size c.args.mem.now / 512)) g.M.FlatMem.cost (omega (arith, c.read_header.ensures.looks.cost)) (omega (arith, c.requires.sized.some_pages)))
+
+pub returns-then-header-eq0-clause-looks : goal.returns-then-header-eq0-clause-looks
+returns-then-header-eq0-clause-looks g c = looks_as g.M.FlatMem c.read_header.ensures.looks tt (spends_less _ _ 1 (12 * (g.M.FlatMem.size c.args.mem.now / 512)) g.M.FlatMem.cost (omega (arith, c.read_header.ensures.looks.cost)) (omega (arith, c.requires.sized.some_pages)))

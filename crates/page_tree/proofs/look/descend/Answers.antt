@@ -147,3 +147,18 @@ pub returns-then-child-eq0-clause-looks : goal.returns-then-child-eq0-clause-loo
 returns-then-child-eq0-clause-looks g c =
     looks_on g.M.FlatMem g.met.M.FlatMem.beside_through g.met.M.FlatMem.beside_itself g.met.M.FlatMem.accounted_wider g.met.M.FlatMem.only_reads_through c.descent.invariant.unchanged c.descent.invariant.kept c.descent.invariant.looked c.load.ensures.looks tt
     (within _ _ _ (affords _ _ _ _ c.descent.level (c.descent.level - 1) (omega (arith, c.descent-test.true)) c.load.ensures.looks.cost c.descent.invariant.cost))
+
+pub returns-in_err-load-clause-looks : goal.returns-in_err-load-clause-looks
+returns-in_err-load-clause-looks g c = looks_on g.M.FlatMem g.met.M.FlatMem.beside_through g.met.M.FlatMem.beside_itself g.met.M.FlatMem.accounted_wider g.met.M.FlatMem.only_reads_through c.descent.invariant.unchanged c.descent.invariant.kept c.descent.invariant.looked c.load.ensures.looks (search rules) (within _ _ _ (affords _ _ _ _ c.descent.level (c.descent.level - 1) (omega (arith, c.descent-test.true)) c.load.ensures.looks.cost c.descent.invariant.cost))
+
+pub returns-then-page-ne2-clause-looks : goal.returns-then-page-ne2-clause-looks
+returns-then-page-ne2-clause-looks g c = looks_on g.M.FlatMem g.met.M.FlatMem.beside_through g.met.M.FlatMem.beside_itself g.met.M.FlatMem.accounted_wider g.met.M.FlatMem.only_reads_through c.descent.invariant.unchanged c.descent.invariant.kept c.descent.invariant.looked c.load.ensures.looks tt (within _ _ _ (affords _ _ _ _ c.descent.level (c.descent.level - 1) (omega (arith, c.descent-test.true)) c.load.ensures.looks.cost c.descent.invariant.cost))
+
+pub returns-in_err-load-2-clause-looks : goal.returns-in_err-load-2-clause-looks
+returns-in_err-load-2-clause-looks g c = looks_on g.M.FlatMem g.met.M.FlatMem.beside_through g.met.M.FlatMem.beside_itself g.met.M.FlatMem.accounted_wider g.met.M.FlatMem.only_reads_through c.descent.invariant.unchanged c.descent.invariant.kept c.descent.invariant.looked c.load-2.ensures.looks (search rules) (within _ _ _ (affords _ _ _ _ c.descent.level (c.descent.level - 1) (omega (arith, c.descent.invariant.order)) c.load-2.ensures.looks.cost c.descent.invariant.cost))
+
+pub returns-then-page-ne1-clause-looks : goal.returns-then-page-ne1-clause-looks
+returns-then-page-ne1-clause-looks g c = looks_on g.M.FlatMem g.met.M.FlatMem.beside_through g.met.M.FlatMem.beside_itself g.met.M.FlatMem.accounted_wider g.met.M.FlatMem.only_reads_through c.descent.invariant.unchanged c.descent.invariant.kept c.descent.invariant.looked c.load-2.ensures.looks tt (within _ _ _ (affords _ _ _ _ c.descent.level (c.descent.level - 1) (omega (arith, c.descent.invariant.order)) c.load-2.ensures.looks.cost c.descent.invariant.cost))
+
+pub returns-clause-looks : goal.returns-clause-looks
+returns-clause-looks g c = looks_on g.M.FlatMem g.met.M.FlatMem.beside_through g.met.M.FlatMem.beside_itself g.met.M.FlatMem.accounted_wider g.met.M.FlatMem.only_reads_through c.descent.invariant.unchanged c.descent.invariant.kept c.descent.invariant.looked c.load-2.ensures.looks tt (within _ _ _ (affords _ _ _ _ c.descent.level (c.descent.level - 1) (omega (arith, c.descent.invariant.order)) c.load-2.ensures.looks.cost c.descent.invariant.cost))

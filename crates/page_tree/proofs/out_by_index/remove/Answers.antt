@@ -1,14 +1,14 @@
-use Rattle.std.proofs.Common.{◌≡◌, refl, inl, inr, ℕ, ◌+◌, ◌-◌, ◌/◌, ◌<◌, ◌≤◌, List, length, remove, arith, sym, ◌∙◌, ap, subst}
+use Rattle.std.proofs.Common.{◌≡◌, refl, inl, inr, ℕ, ◌+◌, ◌-◌, ◌/◌, ◌<◌, ◌≤◌, List, length, remove, arith, sym, ◌∙◌, ap, subst, ◌*◌}
 use Rattle.std.proofs.lemmas.List.Edits.{length-remove}
 use Rattle.page_tree.specs.Page.{IsBlank}
 use Rattle.page_tree.specs.Tree.{IsTree}
 use Rattle.page_tree.specs.Put.{capacity_of}
 use Rattle.page_tree.specs.Climb.{IsClosed}
 use Rattle.page_tree.proofs.Single.{empty_revealed}
-use Rattle.page_tree.proofs.CountLaws.{past_memory, none_at, walk_spends, broken_or, bare_broken}
+use Rattle.page_tree.proofs.CountLaws.{past_memory, none_at, walk_spends, broken_or, bare_broken, spends_less}
 use Rattle.page_tree.proofs.WayLaws.{from_memory}
 use Rattle.page_tree.specs.Broken.{Breaks}
-use Rattle.page_tree.proofs.Calls.{works_on}
+use Rattle.page_tree.proofs.Calls.{works_on, works_as, looks_works}
 use Rattle.page_tree.proofs.out_by_index.remove.Goals as goal
 
 pub returns-in-Err-clause-answer : goal.returns-in-Err-clause-answer
@@ -123,3 +123,30 @@ returns-clause-stood g c = λ b h. c.in-Ok-remove_in.ensures.stood b (c.read_hea
 pub returns-in-Err-remove_in-clause-missing : goal.returns-in-Err-remove_in-clause-missing
 returns-in-Err-remove_in-clause-missing g c = λ b h.
     rw (g.met.M.FlatMem.same_size _ _ c.read_header.ensures.looks.kept) (c.in-Err-remove_in.ensures.missing b (c.read_header.ensures.looks.unchanged b h) (c.in-Ok.ensures.fields b h))
+
+pub returns-in-Err-clause-works : goal.returns-in-Err-clause-works
+returns-in-Err-clause-works g c = works_as g.M.FlatMem (looks_works g.M.FlatMem c.read_header.ensures.looks) c.in-Err.ensures.looks.cause (spends_less _ _ 1 (15 * (g.M.FlatMem.size c.args.mem.now / 512)) g.M.FlatMem.cost (omega (arith, c.read_header.ensures.looks.cost)) (omega (arith, c.requires.sized.some_pages)))
+
+pub returns-then-index-header-clause-works : goal.returns-then-index-header-clause-works
+returns-then-index-header-clause-works g c = works_as g.M.FlatMem (looks_works g.M.FlatMem c.read_header.ensures.looks) tt (spends_less _ _ 1 (15 * (g.M.FlatMem.size c.args.mem.now / 512)) g.M.FlatMem.cost (omega (arith, c.read_header.ensures.looks.cost)) (omega (arith, c.requires.sized.some_pages)))
+
+pub returns-then-header-eq0-clause-works : goal.returns-then-header-eq0-clause-works
+returns-then-header-eq0-clause-works g c = works_as g.M.FlatMem (looks_works g.M.FlatMem c.read_header.ensures.looks) tt (spends_less _ _ 1 (15 * (g.M.FlatMem.size c.args.mem.now / 512)) g.M.FlatMem.cost (omega (arith, c.read_header.ensures.looks.cost)) (omega (arith, c.requires.sized.some_pages)))
+
+pub returns-in-Err-clause-past_same : goal.returns-in-Err-clause-past_same
+returns-in-Err-clause-past_same g c = λ b h past. c.read_header.ensures.looks.unchanged b h
+
+pub returns-then-index-header-clause-past_same : goal.returns-then-index-header-clause-past_same
+returns-then-index-header-clause-past_same g c = λ b h past. c.read_header.ensures.looks.unchanged b h
+
+pub returns-then-header-eq0-clause-past_same : goal.returns-then-header-eq0-clause-past_same
+returns-then-header-eq0-clause-past_same g c = λ b h past. c.read_header.ensures.looks.unchanged b h
+
+pub returns-in-Err-remove_in-clause-past_same : goal.returns-in-Err-remove_in-clause-past_same
+returns-in-Err-remove_in-clause-past_same g c = λ b h past. absurd (omega (arith, past, (c.in-Ok.ensures.fields b h).count_is, c.if-index-header.false))
+
+pub returns-in-Err-finish-clause-past_same : goal.returns-in-Err-finish-clause-past_same
+returns-in-Err-finish-clause-past_same g c = λ b h past. absurd (omega (arith, past, (c.in-Ok.ensures.fields b h).count_is, c.if-index-header.false))
+
+pub returns-clause-past_same : goal.returns-clause-past_same
+returns-clause-past_same g c = λ b h past. absurd (omega (arith, past, (c.in-Ok.ensures.fields b h).count_is, c.if-index-header.false))

@@ -10,6 +10,7 @@ use Rattle.page_tree.proofs.Neighbours.{leaf_room_least}
 use Rattle.page_tree.proofs.WayLaws.{from_memory}
 use Rattle.page_tree.proofs.RebalancingLaws.{single_underfull}
 use Rattle.page_tree.proofs.MetLaws.{met_after}
+use Rattle.page_tree.proofs.Calls.{works_as}
 use Rattle.page_tree.proofs.out_by_index.take_out.Goals as goal
 
 pub returns-then-header-gt1-clause-out : goal.returns-then-header-gt1-clause-out
@@ -77,3 +78,21 @@ returns-in-Err-clause-named g c = λ b h levels_is path met. from_memory (λ pag
 
 pub returns-in-Err-take_later-clause-named : goal.returns-in-Err-take_later-clause-named
 returns-in-Err-take_later-clause-named g c = λ b h levels_is path met. c.in-Err-take_later.ensures.named (λ l above most. met_after g.row.K b l _ (path.met l above most))
+
+pub returns-in-Ok-clause-works : goal.returns-in-Ok-clause-works
+returns-in-Ok-clause-works g c = works_as g.M.FlatMem c.give_page.ensures.works tt (omega (arith, c.give_page.ensures.works.cost))
+
+pub returns-in-Err-clause-works : goal.returns-in-Err-clause-works
+returns-in-Err-clause-works g c = works_as g.M.FlatMem c.give_page.ensures.works c.in-Err.ensures.works.cause (omega (arith, c.give_page.ensures.works.cost))
+
+pub returns-in-Ok-take_first-clause-works : goal.returns-in-Ok-take_first-clause-works
+returns-in-Ok-take_first-clause-works g c = works_as g.M.FlatMem c.take_first.ensures.works tt (omega (arith, c.take_first.ensures.works.cost))
+
+pub returns-in-Err-take_first-clause-works : goal.returns-in-Err-take_first-clause-works
+returns-in-Err-take_first-clause-works g c = works_as g.M.FlatMem c.take_first.ensures.works c.in-Err-take_first.ensures.works.cause (omega (arith, c.take_first.ensures.works.cost))
+
+pub returns-clause-works : goal.returns-clause-works
+returns-clause-works g c = works_as g.M.FlatMem c.take_later.ensures.works tt (omega (arith, c.take_later.ensures.works.cost))
+
+pub returns-in-Err-take_later-clause-works : goal.returns-in-Err-take_later-clause-works
+returns-in-Err-take_later-clause-works g c = works_as g.M.FlatMem c.take_later.ensures.works c.in-Err-take_later.ensures.works.cause (omega (arith, c.take_later.ensures.works.cost))

@@ -3,6 +3,7 @@ use Rattle.flat_mem.specs.Memory.{overwritten}
 use Rattle.page_tree.specs.Rebalance.{IsRebalance}
 use Rattle.page_tree.proofs.Redistributed.{pair_joined, pair_shifted, stays}
 use Rattle.page_tree.proofs.RebalancingLaws.{rebalancing_up}
+use Rattle.page_tree.proofs.Calls.{works_as, works_on}
 use Rattle.page_tree.proofs.redistribute.redistribute_page.Goals as goal
 
 pub returns-in-Ok-give_page-clause-redistribute : goal.returns-in-Ok-give_page-clause-redistribute
@@ -53,3 +54,18 @@ returns-in-Ok-store-clause-on g c = λ root levels paths index b d h rebalancing
       rebalancing_up g.row.K b d levels c.args.pair.level root paths index rebalancing some c.args.pair.left c.args.pair.right left_met right_met apart c.balance-joined.new.left c.balance-joined.new.right c.balance-joined.array_long c.balance-joined.array_long2
           (omega (arith, size, c.requires.left_inside)) (omega (arith, size, c.requires.right_inside)),
     )
+
+pub returns-in-Err-clause-works : goal.returns-in-Err-clause-works
+returns-in-Err-clause-works g c = works_as g.M.FlatMem c.store.ensures.works c.in-Err.ensures.works.cause (omega (arith, c.store.ensures.works.cost))
+
+pub returns-in-Ok-give_page-clause-works : goal.returns-in-Ok-give_page-clause-works
+returns-in-Ok-give_page-clause-works g c = works_on g.M.FlatMem g.met.M.FlatMem.beside_through g.met.M.FlatMem.beside_itself g.met.M.FlatMem.accounted_wider c.store.ensures.works.kept c.give_page.ensures.works tt (omega (arith, c.store.ensures.works.cost, c.give_page.ensures.works.cost))
+
+pub returns-in-Err-give_page-clause-works : goal.returns-in-Err-give_page-clause-works
+returns-in-Err-give_page-clause-works g c = works_on g.M.FlatMem g.met.M.FlatMem.beside_through g.met.M.FlatMem.beside_itself g.met.M.FlatMem.accounted_wider c.store.ensures.works.kept c.give_page.ensures.works c.in-Err-give_page.ensures.works.cause (omega (arith, c.store.ensures.works.cost, c.give_page.ensures.works.cost))
+
+pub returns-in-Ok-store-clause-works : goal.returns-in-Ok-store-clause-works
+returns-in-Ok-store-clause-works g c = works_on g.M.FlatMem g.met.M.FlatMem.beside_through g.met.M.FlatMem.beside_itself g.met.M.FlatMem.accounted_wider c.store.ensures.works.kept c.store-2.ensures.works tt (omega (arith, c.store.ensures.works.cost, c.store-2.ensures.works.cost))
+
+pub returns-in-Err-store-clause-works : goal.returns-in-Err-store-clause-works
+returns-in-Err-store-clause-works g c = works_on g.M.FlatMem g.met.M.FlatMem.beside_through g.met.M.FlatMem.beside_itself g.met.M.FlatMem.accounted_wider c.store.ensures.works.kept c.store-2.ensures.works c.in-Err-store.ensures.works.cause (omega (arith, c.store.ensures.works.cost, c.store-2.ensures.works.cost))

@@ -10,6 +10,7 @@ use Rattle.page_tree.specs.Broken.{Breaks}
 use Rattle.page_tree.proofs.WayLaws.{from_memory}
 use Rattle.page_tree.proofs.MetLaws.{met_after}
 use Rattle.page_tree.proofs.RebalancingLaws.{met_can_name, rebalancing_named}
+use Rattle.page_tree.proofs.Calls.{works_as, works_on}
 use Rattle.page_tree.proofs.taking.take_first.Goals as goal
 
 pub returns-in-Err-clause-out : goal.returns-in-Err-clause-out
@@ -62,3 +63,12 @@ returns-in-Err-clause-named g c = λ root b h levels_is met.
 
 pub returns-in-Err-rebalance-clause-named : goal.returns-in-Err-rebalance-clause-named
 returns-in-Err-rebalance-clause-named g c = λ root b h levels_is met. c.in-Err-rebalance.ensures.named (λ l above most. met_after g.row.K b l _ (met.met l above most))
+
+pub returns-in-Err-clause-works : goal.returns-in-Err-clause-works
+returns-in-Err-clause-works g c = works_as g.M.FlatMem c.name_leaf.ensures.works c.in-Err.ensures.works.cause (omega (arith, c.name_leaf.ensures.works.cost))
+
+pub returns-in-Err-rebalance-clause-works : goal.returns-in-Err-rebalance-clause-works
+returns-in-Err-rebalance-clause-works g c = works_on g.M.FlatMem g.met.M.FlatMem.beside_through g.met.M.FlatMem.beside_itself g.met.M.FlatMem.accounted_wider c.name_leaf.ensures.works.kept c.rebalance.ensures.works c.in-Err-rebalance.ensures.works.cause (omega (arith, c.name_leaf.ensures.works.cost, c.rebalance.ensures.works.cost))
+
+pub returns-clause-works : goal.returns-clause-works
+returns-clause-works g c = works_on g.M.FlatMem g.met.M.FlatMem.beside_through g.met.M.FlatMem.beside_itself g.met.M.FlatMem.accounted_wider c.name_leaf.ensures.works.kept c.rebalance.ensures.works tt (omega (arith, c.name_leaf.ensures.works.cost, c.rebalance.ensures.works.cost))

@@ -12,7 +12,7 @@ returns-in-Ok-clause-rebalanced g c = λ b h records pending.
       overwritten b (512 * c.args.at.now) c.args.page.now,
       c.in-Ok.ensures.written b h,
       pending_closed g.row.E g.row.K (g.M.FlatMem.size c.args.mem.now / 512) b records c.args.header.now.levels c.args.level c.args.path.now.pages c.args.path.now.index c.args.at.now c.args.page.now c.args.header.now.root c.args.header.now.free c.args.header.now.top pending
-          c.requires.below.some (omega (arith, c.requires.below.under)) size c.told-page (ample_enough g.row.E g.row.K c.args.level (filled c.args.page.now) c.args.header.now.levels (c.is_ample.ensures.ample c.if-is_ample.true)),
+          c.requires.below.some (omega (arith, c.requires.below.lower)) size c.told-page (ample_enough g.row.E g.row.K c.args.level (filled c.args.page.now) c.args.header.now.levels (c.is_ample.ensures.ample c.if-is_ample.true)),
     )
 
 pub returns-in-Err-clause-on : goal.returns-in-Err-clause-on

@@ -8,6 +8,7 @@ use Rattle.page_tree.proofs.MetLaws.{met_child, met_down, met_end, path_inside, 
 use Rattle.page_tree.proofs.WalkLaws.{inner_is_form, inner_at, child_below, child_link, leaf_step, led_to, leaf_of_path}
 use Rattle.page_tree.specs.Walked.{IsThread}
 use Rattle.page_tree.proofs.Threads.{thread_down, coming_from, come_down, come_to}
+use Rattle.page_tree.proofs.Calls.{looks_on, within}
 use Rattle.page_tree.proofs.walk.go_down.Goals as goal
 
 pub down-init : goal.down-init
@@ -162,3 +163,18 @@ pub returns-clause-down : goal.returns-clause-down
 returns-clause-down g c =
     let one : c.down.level ≡ 1 = omega (arith, c.down-test.false, c.down.invariant.order.0) in
     come_to c.args.level c.args.at c.args.place c.args.path.now.pages c.args.path.now.index c.down.level c.down.at c.down.place c.down.path.pages c.down.path.index one c.down.invariant.coming
+
+pub returns-in-Err-clause-looks : goal.returns-in-Err-clause-looks
+returns-in-Err-clause-looks g c = looks_on g.M.FlatMem g.met.M.FlatMem.beside_through g.met.M.FlatMem.beside_itself g.met.M.FlatMem.accounted_wider g.met.M.FlatMem.only_reads_through c.down.invariant.unchanged c.down.invariant.kept c.down.invariant.looked c.read_inner.ensures.looks c.in-Err.ensures.looks.cause (within _ _ _ (affords _ _ _ _ c.down.level (c.down.level - 1) (omega (arith, c.down-test.true)) c.read_inner.ensures.looks.cost c.down.invariant.cost))
+
+pub returns-then-place-count-clause-looks : goal.returns-then-place-count-clause-looks
+returns-then-place-count-clause-looks g c = looks_on g.M.FlatMem g.met.M.FlatMem.beside_through g.met.M.FlatMem.beside_itself g.met.M.FlatMem.accounted_wider g.met.M.FlatMem.only_reads_through c.down.invariant.unchanged c.down.invariant.kept c.down.invariant.looked c.read_inner.ensures.looks tt (within _ _ _ (affords _ _ _ _ c.down.level (c.down.level - 1) (omega (arith, c.down-test.true)) c.read_inner.ensures.looks.cost c.down.invariant.cost))
+
+pub returns-then-child-eq0-clause-looks : goal.returns-then-child-eq0-clause-looks
+returns-then-child-eq0-clause-looks g c = looks_on g.M.FlatMem g.met.M.FlatMem.beside_through g.met.M.FlatMem.beside_itself g.met.M.FlatMem.accounted_wider g.met.M.FlatMem.only_reads_through c.down.invariant.unchanged c.down.invariant.kept c.down.invariant.looked c.read_inner.ensures.looks tt (within _ _ _ (affords _ _ _ _ c.down.level (c.down.level - 1) (omega (arith, c.down-test.true)) c.read_inner.ensures.looks.cost c.down.invariant.cost))
+
+pub returns-in-Err-read_leaf-clause-looks : goal.returns-in-Err-read_leaf-clause-looks
+returns-in-Err-read_leaf-clause-looks g c = looks_on g.M.FlatMem g.met.M.FlatMem.beside_through g.met.M.FlatMem.beside_itself g.met.M.FlatMem.accounted_wider g.met.M.FlatMem.only_reads_through c.down.invariant.unchanged c.down.invariant.kept c.down.invariant.looked c.read_leaf.ensures.looks c.in-Err-read_leaf.ensures.looks.cause (within _ _ _ (affords _ _ _ _ c.down.level (c.down.level - 1) (omega (arith, c.down.invariant.order)) c.read_leaf.ensures.looks.cost c.down.invariant.cost))
+
+pub returns-clause-looks : goal.returns-clause-looks
+returns-clause-looks g c = looks_on g.M.FlatMem g.met.M.FlatMem.beside_through g.met.M.FlatMem.beside_itself g.met.M.FlatMem.accounted_wider g.met.M.FlatMem.only_reads_through c.down.invariant.unchanged c.down.invariant.kept c.down.invariant.looked c.read_leaf.ensures.looks tt (within _ _ _ (affords _ _ _ _ c.down.level (c.down.level - 1) (omega (arith, c.down.invariant.order)) c.read_leaf.ensures.looks.cost c.down.invariant.cost))

@@ -3,6 +3,8 @@ use Rattle.page_tree.specs.Tree.{IsRooted}
 use Rattle.page_tree.proofs.WalkLaws.{path_cut, met_cut, leads_after, none_after, led_moved}
 use Rattle.page_tree.proofs.Threads.{thread_cut}
 use Rattle.page_tree.proofs.WalkedLaws.{all_walked, walked_on}
+use Rattle.page_tree.proofs.Calls.{looks_as, looks_on}
+use Rattle.std.proofs.lemmas.Nat.{mul-le}
 use Rattle.page_tree.proofs.walk.next_leaf.Goals as goal
 
 pub returns-in-Err-clause-leaf : goal.returns-in-Err-clause-leaf
@@ -88,3 +90,19 @@ returns-clause-walked g c = λ b h root at passed walked.
 
 pub returns-clause-inside : goal.returns-clause-inside
 returns-clause-inside g c = omega (arith, c.in-Ok-go_down.ensures.inside, g.met.M.FlatMem.same_size _ _ c.turning_level.ensures.looks.kept)
+
+pub returns-in-Err-clause-looks : goal.returns-in-Err-clause-looks
+returns-in-Err-clause-looks g c = looks_as g.M.FlatMem c.turning_level.ensures.looks c.in-Err.ensures.looks.cause (omega (arith, c.turning_level.ensures.looks.cost))
+
+pub returns-in-None-clause-looks : goal.returns-in-None-clause-looks
+returns-in-None-clause-looks g c = looks_as g.M.FlatMem c.turning_level.ensures.looks tt (omega (arith, c.turning_level.ensures.looks.cost))
+
+pub returns-in-Err-go_down-clause-looks : goal.returns-in-Err-go_down-clause-looks
+returns-in-Err-go_down-clause-looks g c =
+    let form = rw c.in-Some.is at c.in-Ok.ensures.form in
+    looks_on g.M.FlatMem g.met.M.FlatMem.beside_through g.met.M.FlatMem.beside_itself g.met.M.FlatMem.accounted_wider g.met.M.FlatMem.only_reads_through c.turning_level.ensures.looks.unchanged c.turning_level.ensures.looks.kept c.turning_level.ensures.looks.looked c.go_down.ensures.looks c.in-Err-go_down.ensures.looks.cause (omega (arith, c.turning_level.ensures.looks.cost, c.go_down.ensures.looks.cost, mul-le c.in-Some.level g.M.FlatMem.cost 6 g.M.FlatMem.cost (omega (arith, form.1, c.requires.way.few)) (omega arith)))
+
+pub returns-clause-looks : goal.returns-clause-looks
+returns-clause-looks g c =
+    let form = rw c.in-Some.is at c.in-Ok.ensures.form in
+    looks_on g.M.FlatMem g.met.M.FlatMem.beside_through g.met.M.FlatMem.beside_itself g.met.M.FlatMem.accounted_wider g.met.M.FlatMem.only_reads_through c.turning_level.ensures.looks.unchanged c.turning_level.ensures.looks.kept c.turning_level.ensures.looks.looked c.go_down.ensures.looks tt (omega (arith, c.turning_level.ensures.looks.cost, c.go_down.ensures.looks.cost, mul-le c.in-Some.level g.M.FlatMem.cost 6 g.M.FlatMem.cost (omega (arith, form.1, c.requires.way.few)) (omega arith)))

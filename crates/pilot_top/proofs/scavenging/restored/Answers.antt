@@ -47,7 +47,7 @@ pub returns-in_err-scavenge-clause-refusal : goal.returns-in_err-scavenge-clause
 returns-in_err-scavenge-clause-refusal g c f is d revealed =
     let same : c.from_residual-in_err-scavenge.result ≡ Err c.in_err-scavenge.field-0.0 = search rules in
     let later = c.look_at_root.ensures.only_reads.contents ∙ revealed in
-    no_volume (g.D.Disk.state c.look_at_root.new.disk).sectors d (g.met.D.Disk.whole c.look_at_root.new.disk d later) c.scavenge.result c.scavenge.ensures.count (λ n. c.scavenge.ensures.judged n d later) f
+    no_volume (g.D.Disk.state c.look_at_root.new.disk).sectors d (g.met.D.Disk.whole c.look_at_root.new.disk d later) c.scavenge.result c.scavenge.ensures.root.count (λ n. c.scavenge.ensures.root.judged n d later) f
     (carried c.in_err-scavenge.field-0.0 (why.Root f) c.from_residual-in_err-scavenge.result c.scavenge.result same c.in_err-scavenge.was is)
 
 -- the volume is restored

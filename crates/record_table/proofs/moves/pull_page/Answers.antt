@@ -1,4 +1,4 @@
-use Rattle.std.proofs.Common.{◌+◌, ◌*◌, ◌/◌, ◌≤◌, length}
+use Rattle.std.proofs.Common.{◌+◌, ◌*◌, ◌/◌, ◌≤◌, length, arith}
 use Rattle.std.proofs.lemmas.Result.{on_ok_weaker}
 use Rattle.flat_mem.specs.Memory.{overwritten}
 use Rattle.record_table.specs.Table.{per_page}
@@ -16,3 +16,12 @@ returns-clause-moved g c = λ b h.
     moves_down e c.requires.some c.requires.most b c.pull.new.page c.args.carried.now c.pull.new.carried c.args.at (g.M.FlatMem.reveals c.write_page.new.mem) c.pull.array_long fits revealed
     (rw (← c.in_ok-read_page.ensures.read b h) c.pull.ensures.pulled))
     (c.write_page.ensures.written b (c.read_page.ensures.unchanged b h))
+
+pub returns-clause-kept : goal.returns-clause-kept
+returns-clause-kept g c = g.met.M.FlatMem.beside_through _ _ _ c.read_page.ensures.kept c.write_page.ensures.kept
+
+pub returns-clause-cost : goal.returns-clause-cost
+returns-clause-cost g c = omega (arith, c.read_page.ensures.cost, c.write_page.ensures.cost)
+
+pub returns-in_err-read_page-clause-cost : goal.returns-in_err-read_page-clause-cost
+returns-in_err-read_page-clause-cost g c = omega (arith, c.read_page.ensures.cost)

@@ -45,3 +45,6 @@ returns-clause-put g c = λ b h.
 
 pub returns-clause-cost : goal.returns-clause-cost
 returns-clause-cost g c = at_most_rows (c.moving.place / per_page g.row.E) (pages_of g.row.E (c.args.count + 1)) g.M.FlatMem.cost _ _ c.moving.invariant.rows c.moving.invariant.cost
+
+pub returns-in_err-push_page-clause-kept : goal.returns-in_err-push_page-clause-kept
+returns-in_err-push_page-clause-kept g c = g.met.M.FlatMem.beside_through _ _ _ c.moving.invariant.kept c.push_page.ensures.kept

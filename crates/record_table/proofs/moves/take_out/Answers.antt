@@ -38,3 +38,14 @@ moving-preserved g c =
 pub returns-clause-taken : goal.returns-clause-taken
 returns-clause-taken g c = λ b h.
     empty_end g.row.E b c.args.at c.args.count c.requires.order (g.M.FlatMem.reveals c.moving.mem) c.moving.end c.moving.carried (omega (arith, c.moving-test.false, c.moving.invariant.order)) (c.moving.invariant.revealed b h)
+
+pub returns-in_err-pull_page-clause-kept : goal.returns-in_err-pull_page-clause-kept
+returns-in_err-pull_page-clause-kept g c = g.met.M.FlatMem.beside_through _ _ _ c.moving.invariant.kept c.pull_page.ensures.kept
+
+pub returns-in_err-pull_page-clause-cost : goal.returns-in_err-pull_page-clause-cost
+returns-in_err-pull_page-clause-cost g c =
+    let e = g.row.E in
+    let more : c.args.at < c.moving.end = omega (arith, c.moving-test.true) in
+    let row : IsRow e c.args.at c.args.count c.moving.end c.max-from.result = is_row e c.requires.some c.requires.most c.args.at c.args.count c.moving.end (c.moving.end - 1) c.max-from.result more refl c.max-from.ensures c.moving.invariant.ends in
+    let had = rw row.pages at (c.moving.invariant.left more) in
+    omega (arith, one_less (c.max-from.result / per_page e) (pages_of e c.args.count) g.M.FlatMem.cost _ _ _ c.pull_page.ensures.cost had)

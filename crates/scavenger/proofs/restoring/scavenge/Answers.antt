@@ -1,4 +1,4 @@
-use Rattle.std.proofs.Common.{◌≡◌, inr, List, Some, ◌∙◌}
+use Rattle.std.proofs.Common.{rules, ◌≡◌, inr, List, Some, ◌∙◌}
 use Rattle.labelled_disk.specs.Sectors.{Sector}
 use Rattle.labelled_disk.proofs.CallLemmas.{only_reads_then}
 use Rattle.scavenger.specs.Orders.{AreFor}
@@ -35,8 +35,12 @@ returns-clause-part g c = λ is d revealed.
       part_after _ _ _ _ c.in_ok-root.ensures.cost.only (part_after _ _ _ _ c.in_ok-plan.ensures.cost.only (on_err c.finish.result _ is c.finish.ensures.carries.part)),
     )
 
-pub returns-clause-judged : goal.returns-clause-judged
-returns-clause-judged g c = λ count d revealed s here. accords_by c.finish.result _ c.finish.ensures.err (c.in_ok-root.ensures.judged count d revealed s here)
+pub returns-clause-root : goal.returns-clause-root
+returns-clause-root g c = record {
+  count = search rules;
+  bad_count = search rules;
+  judged = λ count d revealed s here. accords_by c.finish.result _ c.finish.ensures.err (c.in_ok-root.ensures.judged.judged count d revealed s here);
+}
 
 -- ---- What stands in each crash state.
 

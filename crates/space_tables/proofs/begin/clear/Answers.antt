@@ -1,7 +1,8 @@
-use Rattle.std.proofs.Common.{rules, ◌≡◌, ◌≤◌, ◌+◌, ◌*◌, ℕ, List, length, refl, ◌∙◌, arith}
+use Rattle.std.proofs.Common.{◌≤◌, length, arith}
 use Rattle.std.proofs.lemmas.Nat.{mul-le}
 use Rattle.space_tables.proofs.Begins.{bare_start, bare_more, bare_end}
 use Rattle.space_tables.proofs.Passes.{paid_more, paid_all}
+use Rattle.space_tables.proofs.Outs.{handed, cause_on}
 use Rattle.space_tables.proofs.begin.clear.Goals as goal
 
 pub clearing-init : goal.clearing-init
@@ -39,3 +40,43 @@ returns-in_err-store-2-clause-cost g c =
 pub returns-clause-cost : goal.returns-clause-cost
 returns-clause-cost g c =
     let m = mul-le c.clearing.handle g.M.FlatMem.cost 512 g.M.FlatMem.cost c.clearing.invariant.within (omega arith) in omega (arith, m, c.clearing.invariant.cost, c.store.ensures.cost)
+
+pub returns-in_err-store-clause-kept : goal.returns-in_err-store-clause-kept
+returns-in_err-store-clause-kept g c = c.store.ensures.kept
+
+pub returns-in_err-store-clause-cause : goal.returns-in_err-store-clause-cause
+returns-in_err-store-clause-cause g c = handed _ _ _ _ c.from_residual.ensures.1 c.in_err-store.ensures.cause
+
+pub returns-in_err-store-clause-cost : goal.returns-in_err-store-clause-cost
+returns-in_err-store-clause-cost g c = omega (arith, c.store.ensures.cost)
+
+pub returns-in_err-store-clause-cleared : goal.returns-in_err-store-clause-cleared
+returns-in_err-store-clause-cleared g c = λ b h. handed _ _ _ _ c.from_residual.ensures.1 tt
+
+pub returns-in_err-store-clause-memory : goal.returns-in_err-store-clause-memory
+returns-in_err-store-clause-memory g c = handed _ _ _ _ c.from_residual.ensures.1 c.in_err-store.ensures.memory
+
+pub returns-in_err-store-2-clause-kept : goal.returns-in_err-store-2-clause-kept
+returns-in_err-store-2-clause-kept g c = g.met.M.FlatMem.beside_through _ _ _ (g.met.M.FlatMem.beside_through _ _ _ c.store.ensures.kept c.clearing.invariant.kept) c.store-in-clearing.ensures.kept
+
+pub returns-in_err-store-2-clause-cause : goal.returns-in_err-store-2-clause-cause
+returns-in_err-store-2-clause-cause g c = handed _ _ _ _ c.from_residual-in_err-store-2.ensures.1 (cause_on g.M.FlatMem g.met.M.FlatMem.beside_itself g.met.M.FlatMem.accounted_wider _ _ _ (g.met.M.FlatMem.beside_through _ _ _ c.store.ensures.kept c.clearing.invariant.kept) c.store-in-clearing.ensures.kept _ c.in_err-store-2.ensures.cause)
+
+pub returns-in_err-store-2-clause-cleared : goal.returns-in_err-store-2-clause-cleared
+returns-in_err-store-2-clause-cleared g c = λ b h. handed _ _ _ _ c.from_residual-in_err-store-2.ensures.1 tt
+
+pub returns-in_err-store-2-clause-memory : goal.returns-in_err-store-2-clause-memory
+returns-in_err-store-2-clause-memory g c = handed _ _ _ _ c.from_residual-in_err-store-2.ensures.1 c.in_err-store-2.ensures.memory
+
+pub returns-clause-kept : goal.returns-clause-kept
+returns-clause-kept g c = g.met.M.FlatMem.beside_through _ _ _ c.store.ensures.kept c.clearing.invariant.kept
+
+pub returns-clause-cause : goal.returns-clause-cause
+returns-clause-cause g c = tt
+
+pub returns-clause-memory : goal.returns-clause-memory
+returns-clause-memory g c = tt
+
+pub store-requires-in-clearing-clause-size : goal.store-requires-in-clearing-clause-size
+store-requires-in-clearing-clause-size g c =
+    omega (arith, g.met.M.FlatMem.same_size _ _ c.store.ensures.kept, g.met.M.FlatMem.same_size _ _ c.clearing.invariant.kept, c.requires.size)

@@ -1,15 +1,15 @@
-use Rattle.std.proofs.Common.{rules, ◌≡◌, ℕ, ◌+◌, ◌-◌, ◌*◌, ◌/◌, ◌≤◌, List, map, refl, sym, ◌∙◌, ap, subst, arith}
+use Rattle.std.proofs.Common.{◌≡◌, ℕ, ◌+◌, ◌-◌, ◌*◌, ◌/◌, ◌≤◌, List, map, refl, sym, ◌∙◌, ap, subst, arith}
 use Rattle.std.proofs.lemmas.Nat.{mul-le}
 use Rattle.flat_mem.specs.Memory.{part}
 use Rattle.projection_laws.specs.Sight.{Interval}
-use Rattle.space_tables.specs.Form.{interval_page}
+use Rattle.space_tables.specs.Form.{interval_page, BreaksProjection}
 use Rattle.space_tables.specs.Stored.{HoldTables}
 use Rattle.space_tables.specs.Change.{changed, changed_before}
 use Rattle.space_tables.proofs.Changed.{none_turned, rest_turned, breaks_before}
 use Rattle.space_tables.proofs.PageLemmas.{goes_on, some_more, page_paid}
 use Rattle.space_tables.proofs.Passes.{still_hold}
-use Rattle.space_tables.proofs.Pieces.{mem_as}
 use Rattle.space_tables.proofs.WithinLemmas.{stays_before, stays_after}
+use Rattle.space_tables.proofs.Outs.{handed, cause_on, no_page, not_refused}
 use Rattle.space_tables.proofs.change.rewrite.Given as given
 use Rattle.space_tables.proofs.change.rewrite.Goals as goal
 use Rattle.space_tables.proofs.change.rewrite.Goals.{In_ok-load_page}
@@ -53,7 +53,7 @@ returns-in_err-rewrite_on-clause-changed g c = λ slots xs ss h are long ok coun
     let page = at_hand g (goal.at.returns-in_err-rewrite_on-clause-changed g c).In_ok-load_page now.bytes now.revealed in
     let m = c.in_err-rewrite_on.ensures.changed now.bytes slots xs page (c.load_page.ensures.unchanged now.bytes now.revealed) now.are
     (omega (arith, long, c.page_end-last.ensures.within.0, c.in_ok-from.ensures.form.1)) ok counts small in
-    search (rules, m)
+    handed _ _ _ _ c.from_residual-in_err-rewrite_on.ensures.1 m
 
 pub returns-in_err-rewrite_on-clause-malformed : goal.returns-in_err-rewrite_on-clause-malformed
 returns-in_err-rewrite_on-clause-malformed g c = λ b h.
@@ -61,13 +61,7 @@ returns-in_err-rewrite_on-clause-malformed g c = λ b h.
     let page = at_hand g (goal.at.returns-in_err-rewrite_on-clause-malformed g c).In_ok-load_page at.bytes at.revealed in
     let m = breaks_before c.args.count b at.bytes c.rewriting.index at.rest _
     (c.in_err-rewrite_on.ensures.malformed at.bytes c.args.count page (omega (arith, c.page_end-last.ensures.within.0, c.in_ok-from.ensures.form.1))) in
-    search (rules, m)
-
-pub returns-in_err-rewrite_on-clause-cause : goal.returns-in_err-rewrite_on-clause-cause
-returns-in_err-rewrite_on-clause-cause g c =
-    let kept = g.met.M.FlatMem.beside_through _ _ _ c.rewriting.invariant.kept c.load_page.ensures.kept in
-    let m = mem_as (g.M.FlatMem.accounted c.load_page.new.mem c.rewrite_on.new.mem) (g.M.FlatMem.accounted c.args.mem.now c.rewrite_on.new.mem)
-    (λ x k. g.met.M.FlatMem.accounted_wider _ _ _ _ x kept c.rewrite_on.ensures.kept (g.met.M.FlatMem.beside_itself c.rewrite_on.new.mem) k) _ c.in_err-rewrite_on.ensures.cause in search (rules, m)
+    handed _ _ _ _ c.from_residual-in_err-rewrite_on.ensures.1 m
 
 pub rewriting-preserved : goal.rewriting-preserved
 rewriting-preserved g c =
@@ -109,3 +103,54 @@ returns-in_err-rewrite_on-clause-cost g c = all_paid c.rewriting.number (c.in_ok
 
 pub returns-clause-cost : goal.returns-clause-cost
 returns-clause-cost g c = all_paid c.rewriting.number (c.in_ok-from.from / 16) g.M.FlatMem.cost _ _ _ c.rewriting.invariant.few c.rewriting.invariant.cost (omega arith)
+
+pub returns-in_err-from-clause-kept : goal.returns-in_err-from-clause-kept
+returns-in_err-from-clause-kept g c = c.within.ensures.kept
+
+pub returns-in_err-from-clause-cause : goal.returns-in_err-from-clause-cause
+returns-in_err-from-clause-cause g c = handed _ _ _ _ c.from_residual.ensures.1 c.in_err-from.ensures.cause
+
+pub returns-in_err-from-clause-cost : goal.returns-in_err-from-clause-cost
+returns-in_err-from-clause-cost g c = omega (arith, c.within.ensures.cost)
+
+pub returns-in_err-from-clause-changed : goal.returns-in_err-from-clause-changed
+returns-in_err-from-clause-changed g c = λ slots xs ss h are long ok counts small inside. handed _ _ _ _ c.from_residual.ensures.1 c.in_err-from.ensures.memory
+
+pub returns-in_err-from-clause-malformed : goal.returns-in_err-from-clause-malformed
+returns-in_err-from-clause-malformed g c = λ b h. handed _ _ _ _ c.from_residual.ensures.1 (no_page (BreaksProjection c.args.count b) _ c.in_err-from.ensures.memory)
+
+pub returns-in_err-from-clause-refused : goal.returns-in_err-from-clause-refused
+returns-in_err-from-clause-refused g c = handed _ _ _ _ c.from_residual.ensures.1 (not_refused _ c.in_err-from.ensures.memory)
+
+pub returns-in_err-load_page-clause-kept : goal.returns-in_err-load_page-clause-kept
+returns-in_err-load_page-clause-kept g c = g.met.M.FlatMem.beside_through _ _ _ c.rewriting.invariant.kept c.load_page.ensures.kept
+
+pub returns-in_err-load_page-clause-cause : goal.returns-in_err-load_page-clause-cause
+returns-in_err-load_page-clause-cause g c = handed _ _ _ _ c.from_residual-in_err-load_page.ensures.1 (cause_on g.M.FlatMem g.met.M.FlatMem.beside_itself g.met.M.FlatMem.accounted_wider _ _ _ c.rewriting.invariant.kept c.load_page.ensures.kept _ c.in_err-load_page.ensures.cause)
+
+pub returns-in_err-load_page-clause-changed : goal.returns-in_err-load_page-clause-changed
+returns-in_err-load_page-clause-changed g c = λ slots xs ss h are long ok counts small inside. handed _ _ _ _ c.from_residual-in_err-load_page.ensures.1 c.in_err-load_page.ensures.memory
+
+pub returns-in_err-load_page-clause-malformed : goal.returns-in_err-load_page-clause-malformed
+returns-in_err-load_page-clause-malformed g c = λ b h. handed _ _ _ _ c.from_residual-in_err-load_page.ensures.1 (no_page (BreaksProjection c.args.count b) _ c.in_err-load_page.ensures.memory)
+
+pub returns-in_err-load_page-clause-refused : goal.returns-in_err-load_page-clause-refused
+returns-in_err-load_page-clause-refused g c = handed _ _ _ _ c.from_residual-in_err-load_page.ensures.1 c.in_err-load_page.ensures.refused
+
+pub returns-in_err-rewrite_on-clause-kept : goal.returns-in_err-rewrite_on-clause-kept
+returns-in_err-rewrite_on-clause-kept g c = g.met.M.FlatMem.beside_through _ _ _ (g.met.M.FlatMem.beside_through _ _ _ c.rewriting.invariant.kept c.load_page.ensures.kept) c.rewrite_on.ensures.kept
+
+pub returns-in_err-rewrite_on-clause-cause : goal.returns-in_err-rewrite_on-clause-cause
+returns-in_err-rewrite_on-clause-cause g c = handed _ _ _ _ c.from_residual-in_err-rewrite_on.ensures.1 (cause_on g.M.FlatMem g.met.M.FlatMem.beside_itself g.met.M.FlatMem.accounted_wider _ _ _ (g.met.M.FlatMem.beside_through _ _ _ c.rewriting.invariant.kept c.load_page.ensures.kept) c.rewrite_on.ensures.kept _ c.in_err-rewrite_on.ensures.cause)
+
+pub returns-clause-kept : goal.returns-clause-kept
+returns-clause-kept g c = c.rewriting.invariant.kept
+
+pub returns-clause-cause : goal.returns-clause-cause
+returns-clause-cause g c = tt
+
+pub returns-clause-malformed : goal.returns-clause-malformed
+returns-clause-malformed g c = λ b h. tt
+
+pub returns-clause-refused : goal.returns-clause-refused
+returns-clause-refused g c = tt

@@ -1,11 +1,10 @@
-use Rattle.std.proofs.Common.{rules, ◌≡◌, ℕ, suc, ◌+◌, ◌-◌, ◌<◌, length, true, false, List, Some, None, refl, sym, ◌∙◌, ap, arith}
+use Rattle.std.proofs.Common.{rules, ◌≡◌, ℕ, suc, ◌+◌, ◌-◌, ◌<◌, length, true, false, Some, sym, ◌∙◌, ap, arith}
 use Rattle.std.specs.Prelude.{slice_get, slice_set}
 use Rattle.std.specs.List.{remove}
 use Rattle.std.proofs.lemmas.List.{length-set}
-use Rattle.projection_laws.specs.Sight.{Interval}
 use Rattle.projection_laws.specs.Edits.{alike, longer, paired}
-use Rattle.space_tables.specs.Stored.{HoldTables}
 use Rattle.space_tables.proofs.Rejoined.{paired_alone, paired_apart, paired_alike, at_removed, one_fewer}
+use Rattle.space_tables.proofs.Outs.{handed, cause_on}
 use Rattle.space_tables.proofs.join.pair.Goals as goal
 
 pub returns-in_default-clause-paired : goal.returns-in_default-clause-paired
@@ -37,3 +36,57 @@ returns-clause-paired g c = λ slots xs h long own next.
     let fewer : length (remove (slice_set xs k whole) (k + 1)) ≡ c.args.count - 1 = one_fewer (slice_set xs k whole) (k + 1) (omega (arith, set, more)) ∙ ap (λ (n : ℕ). n - 1) set in
     let there : slice_get (remove (slice_set xs k whole) (k + 1)) k ≡ Some whole = ap (λ (n : ℕ). slice_get (remove (slice_set xs k whole) n) k) at ∙ at_removed xs k whole below in
     rw (← same) (two, fewer, there)
+
+pub returns-in_err-put_interval-clause-kept : goal.returns-in_err-put_interval-clause-kept
+returns-in_err-put_interval-clause-kept g c = c.put_interval.ensures.kept
+
+pub returns-in_err-put_interval-clause-cause : goal.returns-in_err-put_interval-clause-cause
+returns-in_err-put_interval-clause-cause g c = handed _ _ _ _ c.from_residual.ensures.1 c.in_err-put_interval.ensures.cause
+
+pub returns-in_err-put_interval-clause-cost : goal.returns-in_err-put_interval-clause-cost
+returns-in_err-put_interval-clause-cost g c = omega (arith, c.put_interval.ensures.cost)
+
+pub returns-in_err-put_interval-clause-paired : goal.returns-in_err-put_interval-clause-paired
+returns-in_err-put_interval-clause-paired g c = λ slots xs h long own next. handed _ _ _ _ c.from_residual.ensures.1 tt
+
+pub returns-in_err-put_interval-clause-memory : goal.returns-in_err-put_interval-clause-memory
+returns-in_err-put_interval-clause-memory g c = handed _ _ _ _ c.from_residual.ensures.1 c.in_err-put_interval.ensures.memory
+
+pub returns-in_err-put_interval-clause-count : goal.returns-in_err-put_interval-clause-count
+returns-in_err-put_interval-clause-count g c = handed _ _ _ _ c.from_residual.ensures.1 tt
+
+pub returns-in_err-put_interval-clause-pages : goal.returns-in_err-put_interval-clause-pages
+returns-in_err-put_interval-clause-pages g c = handed _ _ _ _ c.from_residual.ensures.1 tt
+
+pub returns-in_err-remove-clause-kept : goal.returns-in_err-remove-clause-kept
+returns-in_err-remove-clause-kept g c = g.met.M.FlatMem.beside_through _ _ _ c.put_interval.ensures.kept c.remove.ensures.kept
+
+pub returns-in_err-remove-clause-cause : goal.returns-in_err-remove-clause-cause
+returns-in_err-remove-clause-cause g c = handed _ _ _ _ c.from_residual-in_err-remove.ensures.1 (cause_on g.M.FlatMem g.met.M.FlatMem.beside_itself g.met.M.FlatMem.accounted_wider _ _ _ c.put_interval.ensures.kept c.remove.ensures.kept _ c.in_err-remove.ensures.cause)
+
+pub returns-in_err-remove-clause-cost : goal.returns-in_err-remove-clause-cost
+returns-in_err-remove-clause-cost g c = omega (arith, c.put_interval.ensures.cost, c.remove.ensures.cost)
+
+pub returns-in_err-remove-clause-paired : goal.returns-in_err-remove-clause-paired
+returns-in_err-remove-clause-paired g c = λ slots xs h long own next. handed _ _ _ _ c.from_residual-in_err-remove.ensures.1 tt
+
+pub returns-in_err-remove-clause-memory : goal.returns-in_err-remove-clause-memory
+returns-in_err-remove-clause-memory g c = handed _ _ _ _ c.from_residual-in_err-remove.ensures.1 c.in_err-remove.ensures.memory
+
+pub returns-in_err-remove-clause-count : goal.returns-in_err-remove-clause-count
+returns-in_err-remove-clause-count g c = handed _ _ _ _ c.from_residual-in_err-remove.ensures.1 tt
+
+pub returns-in_err-remove-clause-pages : goal.returns-in_err-remove-clause-pages
+returns-in_err-remove-clause-pages g c = handed _ _ _ _ c.from_residual-in_err-remove.ensures.1 tt
+
+pub returns-clause-kept : goal.returns-clause-kept
+returns-clause-kept g c = g.met.M.FlatMem.beside_through _ _ _ c.put_interval.ensures.kept c.remove.ensures.kept
+
+pub returns-clause-cause : goal.returns-clause-cause
+returns-clause-cause g c = tt
+
+pub returns-clause-cost : goal.returns-clause-cost
+returns-clause-cost g c = omega (arith, c.put_interval.ensures.cost, c.remove.ensures.cost)
+
+pub returns-clause-memory : goal.returns-clause-memory
+returns-clause-memory g c = tt

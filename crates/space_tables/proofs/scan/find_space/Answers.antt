@@ -8,6 +8,7 @@ use Rattle.space_tables.specs.Scan.{passes, IsFirstFrom}
 use Rattle.space_tables.proofs.Passes.{paid_all}
 use Rattle.space_tables.proofs.PageLemmas.{goes_on, page_paid}
 use Rattle.space_tables.proofs.FirstLemmas.{first_listed, none_listed, none_of_both, none_below, none_above}
+use Rattle.space_tables.proofs.Outs.{handed, cause_on, no_page}
 use Rattle.space_tables.proofs.scan.find_space.Given as given
 use Rattle.space_tables.proofs.scan.find_space.Goals as goal
 use Rattle.space_tables.proofs.scan.find_space.Goals.{In_ok-load_page}
@@ -96,3 +97,90 @@ returns-clause-found g c = λ slots xs h ok all.
 
 pub returns-clause-cost : goal.returns-clause-cost
 returns-clause-cost g c = let p = mul-le (c.scan.number - c.args.handles.now.low / 16) g.M.FlatMem.cost 32 g.M.FlatMem.cost c.scan.invariant.few (omega arith) in omega (arith, p, c.scan.invariant.cost)
+
+pub returns-in_err-load_page-clause-unchanged : goal.returns-in_err-load_page-clause-unchanged
+returns-in_err-load_page-clause-unchanged g c = λ b h. c.load_page.ensures.unchanged b (c.scan.invariant.unchanged b h)
+
+pub returns-in_err-load_page-clause-kept : goal.returns-in_err-load_page-clause-kept
+returns-in_err-load_page-clause-kept g c = g.met.M.FlatMem.beside_through _ _ _ c.scan.invariant.kept c.load_page.ensures.kept
+
+pub returns-in_err-load_page-clause-looked : goal.returns-in_err-load_page-clause-looked
+returns-in_err-load_page-clause-looked g c = g.met.M.FlatMem.only_reads_through _ _ _ c.scan.invariant.looked c.load_page.ensures.looked
+
+pub returns-in_err-load_page-clause-cause : goal.returns-in_err-load_page-clause-cause
+returns-in_err-load_page-clause-cause g c = handed _ _ _ _ c.from_residual.ensures.1 (cause_on g.M.FlatMem g.met.M.FlatMem.beside_itself g.met.M.FlatMem.accounted_wider _ _ _ c.scan.invariant.kept c.load_page.ensures.kept _ c.in_err-load_page.ensures.cause)
+
+pub returns-in_err-load_page-clause-found : goal.returns-in_err-load_page-clause-found
+returns-in_err-load_page-clause-found g c = λ slots xs h ok have. handed _ _ _ _ c.from_residual.ensures.1 c.in_err-load_page.ensures.memory
+
+pub returns-in_err-load_page-clause-read : goal.returns-in_err-load_page-clause-read
+returns-in_err-load_page-clause-read g c = λ b h. handed _ _ _ _ c.from_residual.ensures.1 tt
+
+pub returns-in_err-load_page-clause-form : goal.returns-in_err-load_page-clause-form
+returns-in_err-load_page-clause-form g c = handed _ _ _ _ c.from_residual.ensures.1 tt
+
+pub returns-in_err-load_page-clause-malformed : goal.returns-in_err-load_page-clause-malformed
+returns-in_err-load_page-clause-malformed g c = λ b h. handed _ _ _ _ c.from_residual.ensures.1 (no_page (BreaksHierarchy b) _ c.in_err-load_page.ensures.memory)
+
+pub returns-in_err-load_page-clause-refused : goal.returns-in_err-load_page-clause-refused
+returns-in_err-load_page-clause-refused g c = handed _ _ _ _ c.from_residual.ensures.1 c.in_err-load_page.ensures.refused
+
+pub returns-in_default-clause-unchanged : goal.returns-in_default-clause-unchanged
+returns-in_default-clause-unchanged g c = λ b h. c.load_page.ensures.unchanged b (c.scan.invariant.unchanged b h)
+
+pub returns-in_default-clause-kept : goal.returns-in_default-clause-kept
+returns-in_default-clause-kept g c = g.met.M.FlatMem.beside_through _ _ _ c.scan.invariant.kept c.load_page.ensures.kept
+
+pub returns-in_default-clause-looked : goal.returns-in_default-clause-looked
+returns-in_default-clause-looked g c = g.met.M.FlatMem.only_reads_through _ _ _ c.scan.invariant.looked c.load_page.ensures.looked
+
+pub returns-in_default-clause-cause : goal.returns-in_default-clause-cause
+returns-in_default-clause-cause g c = tt
+
+pub returns-in_default-clause-refused : goal.returns-in_default-clause-refused
+returns-in_default-clause-refused g c = tt
+
+pub returns-in_default-clause-form : goal.returns-in_default-clause-form
+returns-in_default-clause-form g c = tt
+
+pub returns-in-Some-found-clause-unchanged : goal.returns-in-Some-found-clause-unchanged
+returns-in-Some-found-clause-unchanged g c = λ b h. c.load_page.ensures.unchanged b (c.scan.invariant.unchanged b h)
+
+pub returns-in-Some-found-clause-kept : goal.returns-in-Some-found-clause-kept
+returns-in-Some-found-clause-kept g c = g.met.M.FlatMem.beside_through _ _ _ c.scan.invariant.kept c.load_page.ensures.kept
+
+pub returns-in-Some-found-clause-looked : goal.returns-in-Some-found-clause-looked
+returns-in-Some-found-clause-looked g c = g.met.M.FlatMem.only_reads_through _ _ _ c.scan.invariant.looked c.load_page.ensures.looked
+
+pub returns-in-Some-found-clause-cause : goal.returns-in-Some-found-clause-cause
+returns-in-Some-found-clause-cause g c = tt
+
+pub returns-in-Some-found-clause-refused : goal.returns-in-Some-found-clause-refused
+returns-in-Some-found-clause-refused g c = tt
+
+pub returns-in-Some-found-clause-malformed : goal.returns-in-Some-found-clause-malformed
+returns-in-Some-found-clause-malformed g c = λ b h. tt
+
+pub returns-clause-unchanged : goal.returns-clause-unchanged
+returns-clause-unchanged g c = λ b h. c.scan.invariant.unchanged b h
+
+pub returns-clause-kept : goal.returns-clause-kept
+returns-clause-kept g c = c.scan.invariant.kept
+
+pub returns-clause-looked : goal.returns-clause-looked
+returns-clause-looked g c = c.scan.invariant.looked
+
+pub returns-clause-cause : goal.returns-clause-cause
+returns-clause-cause g c = tt
+
+pub returns-clause-refused : goal.returns-clause-refused
+returns-clause-refused g c = tt
+
+pub returns-clause-malformed : goal.returns-clause-malformed
+returns-clause-malformed g c = λ b h. tt
+
+pub returns-clause-form : goal.returns-clause-form
+returns-clause-form g c = tt
+
+pub returns-clause-read : goal.returns-clause-read
+returns-clause-read g c = λ b h. tt

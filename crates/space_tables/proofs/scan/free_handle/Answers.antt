@@ -3,6 +3,7 @@ use Rattle.std.proofs.lemmas.Nat.{mul-le}
 use Rattle.space_tables.specs.Form.{slot_page}
 use Rattle.space_tables.specs.Scan.{end_on, IsLowestFrom}
 use Rattle.space_tables.proofs.Passes.{both_taken}
+use Rattle.space_tables.proofs.Outs.{handed, cause_on}
 use Rattle.space_tables.proofs.scan.free_handle.Given as given
 use Rattle.space_tables.proofs.scan.free_handle.Goals as goal
 use Rattle.space_tables.proofs.scan.free_handle.Goals.{In_ok-load_page}
@@ -45,3 +46,66 @@ returns-clause-free g c = λ slots xs h ok j low below. c.scan.invariant.taken s
 
 pub returns-clause-cost : goal.returns-clause-cost
 returns-clause-cost g c = let p = mul-le (c.scan.from - 1) g.M.FlatMem.cost 511 g.M.FlatMem.cost (omega (arith, c.scan.invariant.within)) (omega arith) in omega (arith, p, c.scan.invariant.cost)
+
+pub returns-in_err-load_page-clause-unchanged : goal.returns-in_err-load_page-clause-unchanged
+returns-in_err-load_page-clause-unchanged g c = λ b h. c.load_page.ensures.unchanged b (c.scan.invariant.unchanged b h)
+
+pub returns-in_err-load_page-clause-kept : goal.returns-in_err-load_page-clause-kept
+returns-in_err-load_page-clause-kept g c = g.met.M.FlatMem.beside_through _ _ _ c.scan.invariant.kept c.load_page.ensures.kept
+
+pub returns-in_err-load_page-clause-looked : goal.returns-in_err-load_page-clause-looked
+returns-in_err-load_page-clause-looked g c = g.met.M.FlatMem.only_reads_through _ _ _ c.scan.invariant.looked c.load_page.ensures.looked
+
+pub returns-in_err-load_page-clause-cause : goal.returns-in_err-load_page-clause-cause
+returns-in_err-load_page-clause-cause g c = handed _ _ _ _ c.from_residual.ensures.1 (cause_on g.M.FlatMem g.met.M.FlatMem.beside_itself g.met.M.FlatMem.accounted_wider _ _ _ c.scan.invariant.kept c.load_page.ensures.kept _ c.in_err-load_page.ensures.cause)
+
+pub returns-in_err-load_page-clause-free : goal.returns-in_err-load_page-clause-free
+returns-in_err-load_page-clause-free g c = λ slots xs h ok. handed _ _ _ _ c.from_residual.ensures.1 c.in_err-load_page.ensures.memory
+
+pub returns-in_err-load_page-clause-form : goal.returns-in_err-load_page-clause-form
+returns-in_err-load_page-clause-form g c = handed _ _ _ _ c.from_residual.ensures.1 tt
+
+pub returns-in_err-load_page-clause-memory : goal.returns-in_err-load_page-clause-memory
+returns-in_err-load_page-clause-memory g c = handed _ _ _ _ c.from_residual.ensures.1 c.in_err-load_page.ensures.memory
+
+pub returns-in_err-load_page-clause-refused : goal.returns-in_err-load_page-clause-refused
+returns-in_err-load_page-clause-refused g c = handed _ _ _ _ c.from_residual.ensures.1 c.in_err-load_page.ensures.refused
+
+pub returns-in-Some-clause-unchanged : goal.returns-in-Some-clause-unchanged
+returns-in-Some-clause-unchanged g c = λ b h. c.load_page.ensures.unchanged b (c.scan.invariant.unchanged b h)
+
+pub returns-in-Some-clause-kept : goal.returns-in-Some-clause-kept
+returns-in-Some-clause-kept g c = g.met.M.FlatMem.beside_through _ _ _ c.scan.invariant.kept c.load_page.ensures.kept
+
+pub returns-in-Some-clause-looked : goal.returns-in-Some-clause-looked
+returns-in-Some-clause-looked g c = g.met.M.FlatMem.only_reads_through _ _ _ c.scan.invariant.looked c.load_page.ensures.looked
+
+pub returns-in-Some-clause-cause : goal.returns-in-Some-clause-cause
+returns-in-Some-clause-cause g c = tt
+
+pub returns-in-Some-clause-refused : goal.returns-in-Some-clause-refused
+returns-in-Some-clause-refused g c = tt
+
+pub returns-in-Some-clause-memory : goal.returns-in-Some-clause-memory
+returns-in-Some-clause-memory g c = tt
+
+pub returns-clause-unchanged : goal.returns-clause-unchanged
+returns-clause-unchanged g c = λ b h. c.scan.invariant.unchanged b h
+
+pub returns-clause-kept : goal.returns-clause-kept
+returns-clause-kept g c = c.scan.invariant.kept
+
+pub returns-clause-looked : goal.returns-clause-looked
+returns-clause-looked g c = c.scan.invariant.looked
+
+pub returns-clause-cause : goal.returns-clause-cause
+returns-clause-cause g c = tt
+
+pub returns-clause-refused : goal.returns-clause-refused
+returns-clause-refused g c = tt
+
+pub returns-clause-memory : goal.returns-clause-memory
+returns-clause-memory g c = tt
+
+pub returns-clause-form : goal.returns-clause-form
+returns-clause-form g c = tt

@@ -1,4 +1,4 @@
-use Rattle.std.proofs.Common.{◌≡◌, inl, ℕ, ◌-◌, Err, rules, sym, ◌∙◌, ap, subst, arith}
+use Rattle.std.proofs.Common.{◌≡◌, inl, ℕ, ◌-◌, Ok, Err, rules, sym, ◌∙◌, ap, subst, arith}
 use Rattle.labelled_disk.specs.Layout.{first_data}
 use Rattle.labelled_disk.proofs.CallLemmas.{only_reads_then}
 use Rattle.volume_root.specs.OldRoot.{IsValidOldRoot}
@@ -14,10 +14,14 @@ pub returns-in_err-conversion-clause-crash_states : goal.returns-in_err-conversi
 returns-in_err-conversion-clause-crash_states g c = λ d before writes revealed earlier later k.
     crash_states_of_none (g.D.Disk.state c.args.disk.now) (g.D.Disk.state c.make_plan.new.disk) (only_reads_then c.in_ok-root.ensures.cost.only c.make_plan.ensures.cost.only) d before writes earlier later k
 
-pub returns-in_err-conversion-clause-root : goal.returns-in_err-conversion-clause-root
-returns-in_err-conversion-clause-root g c =
+pub returns-in_err-conversion-clause-refuses : goal.returns-in_err-conversion-clause-refuses
+returns-in_err-conversion-clause-refuses g c =
     let same : c.from_residual-in_err-conversion.result ≡ Err c.in_err-conversion.field-0.0 = search rules in
-    rw same (judges_later (g.D.Disk.state c.args.disk.now) c.in_ok-root.root c.in_ok-root.ensures.judged c.in_ok-root.ensures.valid.accepted (Err c.in_err-conversion.field-0.0) (no_refusal Converted c.in_err-conversion.field-0.0 c.in_err-conversion.ensures.err))
+    record {
+      root = rw same (judges_later (g.D.Disk.state c.args.disk.now) c.in_ok-root.root c.in_ok-root.ensures.judged c.in_ok-root.ensures.valid.accepted (Err c.in_err-conversion.field-0.0) (no_refusal Converted c.in_err-conversion.field-0.0 c.in_err-conversion.ensures.err));
+      room = search rules;
+      unwritten = search rules;
+    }
 
 pub returns-in_err-finish-clause-part : goal.returns-in_err-finish-clause-part
 returns-in_err-finish-clause-part g c = λ is d revealed.
@@ -27,10 +31,14 @@ returns-in_err-finish-clause-part g c = λ is d revealed.
     (c.in_ok-conversion.ensures.room.fits d (c.in_ok-root.ensures.cost.only.contents ∙ revealed)) (c.in_ok-conversion.ensures.planned d (c.in_ok-root.ensures.cost.only.contents ∙ revealed) (c.in_ok-root.ensures.root d revealed))
     c.in_err-finish.ensures.carries.part
 
-pub returns-in_err-finish-clause-root : goal.returns-in_err-finish-clause-root
-returns-in_err-finish-clause-root g c =
+pub returns-in_err-finish-clause-refuses : goal.returns-in_err-finish-clause-refuses
+returns-in_err-finish-clause-refuses g c =
     let same : c.from_residual-in_err-finish.result ≡ Err c.in_err-finish.field-0.0 = search rules in
-    rw same (judges_later (g.D.Disk.state c.args.disk.now) c.in_ok-root.root c.in_ok-root.ensures.judged c.in_ok-root.ensures.valid.accepted (Err c.in_err-finish.field-0.0) (no_refusal Converted c.in_err-finish.field-0.0 (inl c.in_err-finish.ensures.err)))
+    record {
+      root = rw same (judges_later (g.D.Disk.state c.args.disk.now) c.in_ok-root.root c.in_ok-root.ensures.judged c.in_ok-root.ensures.valid.accepted (Err c.in_err-finish.field-0.0) (no_refusal Converted c.in_err-finish.field-0.0 (inl c.in_err-finish.ensures.err)));
+      room = search rules;
+      unwritten = search rules;
+    }
 
 pub returns-in_err-finish-clause-crash_states : goal.returns-in_err-finish-clause-crash_states
 returns-in_err-finish-clause-crash_states g c = λ d before writes revealed earlier later k.
@@ -56,6 +64,17 @@ returns-in_err-finish-clause-cost g c = λ d revealed.
     (subst (λ (n : ℕ). IsValidOldRoot n c.in_ok-root.root) (sym (g.met.D.Disk.whole c.args.disk.now d revealed)) c.in_ok-root.ensures.valid)
     (c.in_ok-conversion.ensures.room.fits d (c.in_ok-root.ensures.cost.only.contents ∙ revealed)) (c.in_ok-conversion.ensures.planned d (c.in_ok-root.ensures.cost.only.contents ∙ revealed) (c.in_ok-root.ensures.root d revealed))
     _ (omega (arith, same, c.in_ok-root.ensures.cost.moved, c.in_ok-conversion.ensures.cost.moved)) c.in_err-finish.ensures.carries
+
+pub returns-clause-refuses : goal.returns-clause-refuses
+returns-clause-refuses g c = record {
+  root = judges_later (g.D.Disk.state c.args.disk.now) c.in_ok-root.root c.in_ok-root.ensures.judged c.in_ok-root.ensures.valid.accepted (Ok c.in_ok-conversion.conversion.revealed) tt;
+  room = record {
+    wants = λ wanted room is. absurd (cc is);
+    unfit = λ wanted room is. absurd (cc is);
+    fits = λ d revealed. c.in_ok-conversion.ensures.room.fits d (c.in_ok-root.ensures.cost.only.contents ∙ revealed);
+  };
+  unwritten = λ why is other. absurd (cc is);
+}
 
 pub returns-clause-converted : goal.returns-clause-converted
 returns-clause-converted g c = λ d revealed.

@@ -12,7 +12,7 @@ use Rattle.volume_pair.proofs.pages.read_file_page.Goals as goal
 pub returns-in-Ok-read_page-clause-read : goal.returns-in-Ok-read_page-clause-read
 returns-in-Ok-read_page-clause-read g c = λ x shapes books.
     let u = view_of c.sector_of.new.filer in
-    let w : View = record u { disk = g.D.Disk.state c.read_page.new.swapper.disk; slots = c.read_page.new.swapper.pool; layout = c.read_page.new.swapper.layout } in
+    let w : View = record u { disk = g.D.Disk.state c.read_page.new.memory.disk; slots = c.read_page.new.memory.pool; layout = c.read_page.new.memory.layout } in
     let found = c.sector_of.ensures.found x shapes books in
     let same = rw c.swapper_over-swapper.ensures.value at c.read_page.ensures.same in
     let frames = rw c.swapper_over-swapper.ensures.value at c.read_page.ensures.frames in
@@ -29,7 +29,7 @@ returns-in-Ok-read_page-clause-looks g c =
 pub returns-in-Err-read_page-clause-read : goal.returns-in-Err-read_page-clause-read
 returns-in-Err-read_page-clause-read g c = λ x shapes books.
     let u = view_of c.sector_of.new.filer in
-    let w : View = record u { disk = g.D.Disk.state c.read_page.new.swapper.disk; slots = c.read_page.new.swapper.pool; layout = c.read_page.new.swapper.layout } in
+    let w : View = record u { disk = g.D.Disk.state c.read_page.new.memory.disk; slots = c.read_page.new.memory.pool; layout = c.read_page.new.memory.layout } in
     let found = c.sector_of.ensures.found x shapes books in
     let same = rw c.swapper_over-swapper.ensures.value at c.read_page.ensures.same in
     let frames = rw c.swapper_over-swapper.ensures.value at c.read_page.ensures.frames in
@@ -46,7 +46,7 @@ returns-in-Err-read_page-clause-looks g c =
 pub returns-in-Err-read_page-clause-why : goal.returns-in-Err-read_page-clause-why
 returns-in-Err-read_page-clause-why g c =
     let u = view_of c.sector_of.new.filer in
-    let w : View = record u { disk = g.D.Disk.state c.read_page.new.swapper.disk; slots = c.read_page.new.swapper.pool; layout = c.read_page.new.swapper.layout } in
+    let w : View = record u { disk = g.D.Disk.state c.read_page.new.memory.disk; slots = c.read_page.new.memory.pool; layout = c.read_page.new.memory.layout } in
     let wanted : Wanted = record { id = c.args.id; page = c.args.page } in
     let makes = rw c.swapper_over-swapper.ensures.value at c.read_page.ensures.makes in
     let lay = c.sector_of.ensures.looks.layout in

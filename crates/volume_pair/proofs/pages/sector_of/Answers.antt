@@ -20,7 +20,7 @@ returns-in-Ok-Some-clause-found g c = λ x shapes books.
     let b = books.booked in
     let map = map_is _ _ shapes x is b in
     let are = kept_are _ _ shapes x is b in (
-      books_then v (view_of c.find.new.self) shapes x books (c.find.ensures.same x b.named books.stands map) (own_maps FileMap v.layout _ _ c.find.ensures.beside.brings) (c.find.ensures.runs_are x b.named books.stands map are) c.find.ensures.looked.layout,
+      books_then v (view_of c.find.new.self) shapes x books (c.find.ensures.leaves.same x b.named books.stands map) (own_maps FileMap v.layout _ _ c.find.ensures.leaves.beside.brings) (c.find.ensures.keeps.runs_are x b.named books.stands map are) c.find.ensures.leaves.looked.layout,
       λ f shape below.
           let found = subst (IsFound b.named c.args.id c.args.page) c.in-Ok-Some.field-0-is (c.in-Ok-Some.ensures.found x b.named books.stands map are) in
           b.triples.only c.args.id c.args.page _ (found.1 c.args.page found.0),
@@ -34,7 +34,7 @@ returns-in-Ok-Some-clause-inside g c =
     run_place layout c.in-Ok-Some.run' c.args.id c.args.page (accepted c.args.filer.now) form has
 
 pub returns-in-Ok-Some-clause-looks : goal.returns-in-Ok-Some-clause-looks
-returns-in-Ok-Some-clause-looks g c = record { makes = c.find.ensures.looked.swaps.makes; layout = c.find.ensures.looked.layout }
+returns-in-Ok-Some-clause-looks g c = record { makes = c.find.ensures.leaves.looked.swaps.makes; layout = c.find.ensures.leaves.looked.layout }
 
 pub returns-in-Ok-None-clause-found : goal.returns-in-Ok-None-clause-found
 returns-in-Ok-None-clause-found g c = λ x shapes books.
@@ -43,14 +43,14 @@ returns-in-Ok-None-clause-found g c = λ x shapes books.
     let b = books.booked in
     let map = map_is _ _ shapes x is b in
     let are = kept_are _ _ shapes x is b in (
-      books_then v (view_of c.find.new.self) shapes x books (c.find.ensures.same x b.named books.stands map) (own_maps FileMap v.layout _ _ c.find.ensures.beside.brings) (c.find.ensures.runs_are x b.named books.stands map are) c.find.ensures.looked.layout,
+      books_then v (view_of c.find.new.self) shapes x books (c.find.ensures.leaves.same x b.named books.stands map) (own_maps FileMap v.layout _ _ c.find.ensures.leaves.beside.brings) (c.find.ensures.keeps.runs_are x b.named books.stands map are) c.find.ensures.leaves.looked.layout,
       λ f shape below.
           let nowhere : IsNowhere b.named c.args.id c.args.page = subst (IsFound b.named c.args.id c.args.page) c.in-Ok-None.field-0-is (c.in-Ok-None.ensures.found x b.named books.stands map are) in
           absurd (nowhere_not shapes x b c.args.id c.args.page f shape below nowhere),
     )
 
 pub returns-in-Ok-None-clause-looks : goal.returns-in-Ok-None-clause-looks
-returns-in-Ok-None-clause-looks g c = record { makes = c.find.ensures.looked.swaps.makes; layout = c.find.ensures.looked.layout }
+returns-in-Ok-None-clause-looks g c = record { makes = c.find.ensures.leaves.looked.swaps.makes; layout = c.find.ensures.leaves.looked.layout }
 
 pub returns-in-Ok-None-clause-why : goal.returns-in-Ok-None-clause-why
 returns-in-Ok-None-clause-why g c = record { counted = λ is. no_fault is; evidence_seen = inr c.requires.client }
@@ -62,15 +62,15 @@ returns-in-Err-clause-found g c = λ x shapes books.
     let b = books.booked in
     let map = map_is _ _ shapes x is b in
     let are = kept_are _ _ shapes x is b in (
-      books_then v (view_of c.find.new.self) shapes x books (c.find.ensures.same x b.named books.stands map) (own_maps FileMap v.layout _ _ c.find.ensures.beside.brings) (c.find.ensures.runs_are x b.named books.stands map are) c.find.ensures.looked.layout,
-      λ f shape below. c.in-Err.ensures.sound x b.named books.stands map (map_named _ x is b.long b.map_labels),
+      books_then v (view_of c.find.new.self) shapes x books (c.find.ensures.leaves.same x b.named books.stands map) (own_maps FileMap v.layout _ _ c.find.ensures.leaves.beside.brings) (c.find.ensures.keeps.runs_are x b.named books.stands map are) c.find.ensures.leaves.looked.layout,
+      λ f shape below. c.in-Err.ensures.fails.sound x b.named books.stands map (map_named _ x is b.long b.map_labels),
     )
 
 pub returns-in-Err-clause-looks : goal.returns-in-Err-clause-looks
-returns-in-Err-clause-looks g c = record { makes = c.find.ensures.looked.swaps.makes; layout = c.find.ensures.looked.layout }
+returns-in-Err-clause-looks g c = record { makes = c.find.ensures.leaves.looked.swaps.makes; layout = c.find.ensures.leaves.looked.layout }
 
 pub returns-in-Err-clause-why : goal.returns-in-Err-clause-why
 returns-in-Err-clause-why g c = record {
-  counted = counted _ _ (view_of c.args.filer.now).disk (view_of c.find.new.self).disk _ (omega arith) c.in-Err.ensures.cause;
-  evidence_seen = so_of_map (fits (swapper_of c.args.filer.now) c.requires.size) c.find.ensures.beside.goes.makes c.in-Err.halt c.in-Err.ensures.cause;
+  counted = counted _ _ (view_of c.args.filer.now).disk (view_of c.find.new.self).disk _ (omega arith) c.in-Err.ensures.fails.cause;
+  evidence_seen = so_of_map (fits (swapper_of c.args.filer.now) c.requires.size) c.find.ensures.leaves.beside.goes.makes c.in-Err.halt c.in-Err.ensures.fails.cause;
 }

@@ -17,7 +17,7 @@ returns-in-Err-clause-puts g c = λ x shapes f books found below. (c.in-Err.ensu
 pub returns-in-Ok-write_page-clause-puts : goal.returns-in-Ok-write_page-clause-puts
 returns-in-Ok-write_page-clause-puts g c = λ x shapes f books found below.
     let u = view_of c.sector_of.new.filer in
-    let w : View = record u { disk = g.D.Disk.state c.write_page.new.swapper.disk; slots = c.write_page.new.swapper.pool; layout = c.write_page.new.swapper.layout } in
+    let w : View = record u { disk = g.D.Disk.state c.write_page.new.memory.disk; slots = c.write_page.new.memory.pool; layout = c.write_page.new.memory.layout } in
     let has = c.in-Ok.ensures.found x shapes books in
     put_after u w shapes x c.args.id c.args.page c.in-Ok.sector c.args.bytes.now c.requires.client f found has.0 (has.1 f found below) (page_form c.args.bytes.now c.told-bytes c.fits-bytes)
     (rw c.swapper_over-swapper.ensures.value at c.in-Ok-write_page.ensures.written) (rw c.swapper_over-swapper.ensures.value at c.write_page.ensures.frames) (rw c.swapper_over-swapper.ensures.value at c.write_page.ensures.layout) refl
@@ -46,7 +46,7 @@ returns-in-Err-write_page-clause-writes g c =
 pub returns-in-Err-write_page-clause-why : goal.returns-in-Err-write_page-clause-why
 returns-in-Err-write_page-clause-why g c =
     let u = view_of c.sector_of.new.filer in
-    let w : View = record u { disk = g.D.Disk.state c.write_page.new.swapper.disk; slots = c.write_page.new.swapper.pool; layout = c.write_page.new.swapper.layout } in
+    let w : View = record u { disk = g.D.Disk.state c.write_page.new.memory.disk; slots = c.write_page.new.memory.pool; layout = c.write_page.new.memory.layout } in
     let wanted : Wanted = record { id = c.args.id; page = c.args.page } in
     let moves = rw c.swapper_over-swapper.ensures.value at c.write_page.ensures.moves in
     let lay = c.sector_of.ensures.looks.layout in

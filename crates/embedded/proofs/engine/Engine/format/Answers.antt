@@ -15,7 +15,7 @@ returns-in-Ok-made g c =
     formats c.args.serial c.args.counter c.args.self.now _ _ c.in-Ok.disk c.format-made.new.disk (none_zero c.if-serial-eq0.false c.if-counter-eq0.false)
     c.in-Ok.ensures.disk
     (held_again c.take_disk.new.self c.args.self.now (held.Disk c.format-made.new.disk) c.in-Ok.ensures.taken)
-    (makes c.args.serial c.args.counter (g.D.Disk.state c.in-Ok.disk) (g.D.Disk.state c.format-made.new.disk) c.format-made.result _ c.in-Ok-made.is f.contents f.synced f.count f.later)
+    (makes c.args.serial c.args.counter (g.D.Disk.state c.in-Ok.disk) (g.D.Disk.state c.format-made.new.disk) c.format-made.result _ c.in-Ok-made.is f.contents f.synced f.count.refused f.later)
 
 pub returns-in-Err-made : goal.returns-in-Err-made
 returns-in-Err-made g c =
@@ -23,5 +23,5 @@ returns-in-Err-made g c =
     formats c.args.serial c.args.counter c.args.self.now _ _ c.in-Ok.disk c.format-made.new.disk (none_zero c.if-serial-eq0.false c.if-counter-eq0.false)
     c.in-Ok.ensures.disk
     (held_again c.take_disk.new.self c.args.self.now (held.Disk c.format-made.new.disk) c.in-Ok.ensures.taken)
-    (makes_none c.args.serial c.args.counter (g.D.Disk.state c.in-Ok.disk) (g.D.Disk.state c.format-made.new.disk) c.format-made.result c.in-Err-made.why c.in-Err-made.is f.count f.bad_count
-    f.unwritten f.part f.cause f.err f.later)
+    (makes_none c.args.serial c.args.counter (g.D.Disk.state c.in-Ok.disk) (g.D.Disk.state c.format-made.new.disk) c.format-made.result c.in-Err-made.why c.in-Err-made.is f.count.refused f.count.bad_count
+    f.count.unwritten f.part f.cause f.err f.later)

@@ -184,3 +184,54 @@ returns-in-Ok-ReadOnly-clause-brings g c = own_fetches (core_view c.args.self.no
 
 pub returns-in-Err-clause-brings : goal.returns-in-Err-clause-brings
 returns-in-Err-clause-brings g c = own_fetches (core_view c.args.self.now) (core_view c.refer.new.self) c.refer.ensures.brings
+
+pub returns-in-Ok-NoMap-clause-fails : goal.returns-in-Ok-NoMap-clause-fails
+returns-in-Ok-NoMap-clause-fails g c = record { cause = tt; missing = λ ss s. tt; right = λ ss s. tt; sound = λ m named ss knows. tt }
+
+pub returns-in-Ok-NoMap-clause-stays : goal.returns-in-Ok-NoMap-clause-stays
+returns-in-Ok-NoMap-clause-stays g c = c.refer.ensures.stays
+
+pub returns-in-Ok-NoMap-clause-idle : goal.returns-in-Ok-NoMap-clause-idle
+returns-in-Ok-NoMap-clause-idle g c = λ first last apart. let one = c.in-Ok-NoMap.ensures.idle first last apart in (refl, one.2, one.3)
+
+pub returns-in-Ok-NoMap-clause-cost : goal.returns-in-Ok-NoMap-clause-cost
+returns-in-Ok-NoMap-clause-cost g c = omega (arith, c.refer.ensures.cost)
+
+pub returns-in-Ok-ReadOnly-clause-fails : goal.returns-in-Ok-ReadOnly-clause-fails
+returns-in-Ok-ReadOnly-clause-fails g c = record { cause = tt; missing = λ ss s. tt; right = λ ss s. tt; sound = λ m named ss knows. tt }
+
+pub returns-in-Ok-ReadOnly-clause-stays : goal.returns-in-Ok-ReadOnly-clause-stays
+returns-in-Ok-ReadOnly-clause-stays g c = c.refer.ensures.stays
+
+pub returns-in-Ok-ReadOnly-clause-idle : goal.returns-in-Ok-ReadOnly-clause-idle
+returns-in-Ok-ReadOnly-clause-idle g c = λ first last apart. let one = c.in-Ok-ReadOnly.ensures.idle first last apart in (refl, one.2, one.3)
+
+pub returns-in-Ok-ReadOnly-clause-cost : goal.returns-in-Ok-ReadOnly-clause-cost
+returns-in-Ok-ReadOnly-clause-cost g c = omega (arith, c.refer.ensures.cost)
+
+pub returns-in-Err-clause-comes : goal.returns-in-Err-clause-comes
+returns-in-Err-clause-comes g c = record { access = λ m named ss knows. tt; ready = tt }
+
+pub returns-in-Err-clause-moves : goal.returns-in-Err-clause-moves
+returns-in-Err-clause-moves g c = record { bytes = λ m named ss knows. tt; width = refl; refused = tt; intact = λ one. refl }
+
+pub returns-in-Err-clause-stays : goal.returns-in-Err-clause-stays
+returns-in-Err-clause-stays g c = c.refer.ensures.stays
+
+pub returns-in-Err-clause-idle : goal.returns-in-Err-clause-idle
+returns-in-Err-clause-idle g c = λ first last apart. let one = c.in-Err.ensures.idle first last apart in (one.1, one.2, one.3)
+
+pub returns-in-Err-clause-cost : goal.returns-in-Err-clause-cost
+returns-in-Err-clause-cost g c = omega (arith, c.refer.ensures.cost)
+
+pub returns-in-Ok-clause-fails : goal.returns-in-Ok-clause-fails
+returns-in-Ok-clause-fails g c = record { cause = tt; missing = λ ss s. tt; right = λ ss s. tt; sound = λ m named ss knows. tt }
+
+pub returns-in-Ok-clause-cost : goal.returns-in-Ok-clause-cost
+returns-in-Ok-clause-cost g c = omega (arith, c.refer.ensures.cost, c.load_shown.ensures.cost)
+
+pub returns-in-Err-load_shown-clause-comes : goal.returns-in-Err-load_shown-clause-comes
+returns-in-Err-load_shown-clause-comes g c = record { access = λ m named ss knows. tt; ready = tt }
+
+pub returns-in-Err-load_shown-clause-cost : goal.returns-in-Err-load_shown-clause-cost
+returns-in-Err-load_shown-clause-cost g c = omega (arith, c.refer.ensures.cost, c.load_shown.ensures.cost)

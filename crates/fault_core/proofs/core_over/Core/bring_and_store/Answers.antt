@@ -1,4 +1,4 @@
-use Rattle.std.proofs.Common.{rules, ◌/◌, true, refl, sym, arith, length, inl, inr}
+use Rattle.std.proofs.Common.{rules, ap, ◌/◌, true, refl, sym, arith, length, inl, inr}
 use Rattle.swapper_kernel.specs.HaltLaws.{brings_then}
 use Rattle.session_words.specs.CellLaws.{IsTouchedOrOwn}
 use Rattle.fault_core.specs.declared.reference.Access.TheVariants as access
@@ -294,3 +294,42 @@ returns-in-Err-store_shown-clause-idle g c = λ first last apart.
     let y_whole : IsWhole (state c.refer.new.self).slots y q = rw one.2 whole.1 in
     let two = c.in-Err-store_shown.ensures.idle x_whole y_whole in
     (two.0, rw (← one.2) two.1, one.3)
+
+pub returns-in-Ok-NoMap-clause-fails : goal.returns-in-Ok-NoMap-clause-fails
+returns-in-Ok-NoMap-clause-fails g c = record { cause = tt; missing = λ ss s. tt; right = λ ss s. tt; sound = λ m named ss knows. tt }
+
+pub returns-in-Ok-NoMap-clause-idle : goal.returns-in-Ok-NoMap-clause-idle
+returns-in-Ok-NoMap-clause-idle g c = λ first last apart. let one = c.in-Ok-NoMap.ensures.idle first last apart in (refl, ap (λ f. (view_of f).disk) one.2, one.3)
+
+pub returns-in-Ok-NoMap-clause-cost : goal.returns-in-Ok-NoMap-clause-cost
+returns-in-Ok-NoMap-clause-cost g c = omega (arith, c.refer.ensures.cost)
+
+pub returns-in-Ok-ReadOnly-clause-fails : goal.returns-in-Ok-ReadOnly-clause-fails
+returns-in-Ok-ReadOnly-clause-fails g c = record { cause = tt; missing = λ ss s. tt; right = λ ss s. tt; sound = λ m named ss knows. tt }
+
+pub returns-in-Ok-ReadOnly-clause-idle : goal.returns-in-Ok-ReadOnly-clause-idle
+returns-in-Ok-ReadOnly-clause-idle g c = λ first last apart. let one = c.in-Ok-ReadOnly.ensures.idle first last apart in (refl, ap (λ f. (view_of f).disk) one.2, one.3)
+
+pub returns-in-Ok-ReadOnly-clause-cost : goal.returns-in-Ok-ReadOnly-clause-cost
+returns-in-Ok-ReadOnly-clause-cost g c = omega (arith, c.refer.ensures.cost)
+
+pub returns-in-Err-clause-comes : goal.returns-in-Err-clause-comes
+returns-in-Err-clause-comes g c = record { access = λ m named ss knows. tt; ready = tt }
+
+pub returns-in-Err-clause-idle : goal.returns-in-Err-clause-idle
+returns-in-Err-clause-idle g c = λ first last apart. let one = c.in-Err.ensures.idle first last apart in (one.1, ap (λ f. (view_of f).disk) one.2, one.3)
+
+pub returns-in-Err-clause-cost : goal.returns-in-Err-clause-cost
+returns-in-Err-clause-cost g c = omega (arith, c.refer.ensures.cost)
+
+pub returns-in-Ok-clause-fails : goal.returns-in-Ok-clause-fails
+returns-in-Ok-clause-fails g c = record { cause = tt; missing = λ ss s. tt; right = λ ss s. tt; sound = λ m named ss knows. tt }
+
+pub returns-in-Ok-clause-cost : goal.returns-in-Ok-clause-cost
+returns-in-Ok-clause-cost g c = omega (arith, c.refer.ensures.cost, c.store_shown.ensures.cost)
+
+pub returns-in-Err-store_shown-clause-comes : goal.returns-in-Err-store_shown-clause-comes
+returns-in-Err-store_shown-clause-comes g c = record { access = λ m named ss knows. tt; ready = tt }
+
+pub returns-in-Err-store_shown-clause-cost : goal.returns-in-Err-store_shown-clause-cost
+returns-in-Err-store_shown-clause-cost g c = omega (arith, c.refer.ensures.cost, c.store_shown.ensures.cost)

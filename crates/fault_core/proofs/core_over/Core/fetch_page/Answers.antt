@@ -173,3 +173,51 @@ returns-in-Ok-None-clause-brings g c = own_fetches_in_room (core_view c.args.sel
 
 pub returns-in-Err-clause-brings : goal.returns-in-Err-clause-brings
 returns-in-Err-clause-brings g c = own_fetches_in_room (core_view c.args.self.now) (core_view c.shown.new.self) c.shown.ensures.brings
+
+pub returns-in-Ok-None-clause-fails : goal.returns-in-Ok-None-clause-fails
+returns-in-Ok-None-clause-fails g c = record { cause = tt; missing = λ ss s. tt; right = λ ss s. tt; sound = λ m named ss knows. tt }
+
+pub returns-in-Ok-None-clause-misses : goal.returns-in-Ok-None-clause-misses
+returns-in-Ok-None-clause-misses g c = tt
+
+pub returns-in-Ok-None-clause-early : goal.returns-in-Ok-None-clause-early
+returns-in-Ok-None-clause-early g c = tt
+
+pub returns-in-Ok-None-clause-stays : goal.returns-in-Ok-None-clause-stays
+returns-in-Ok-None-clause-stays g c = c.shown.ensures.stays
+
+pub returns-in-Ok-None-clause-idle : goal.returns-in-Ok-None-clause-idle
+returns-in-Ok-None-clause-idle g c = λ ready apart. let one = c.in-Ok-None.ensures.idle ready apart in (refl, one.2, one.3)
+
+pub returns-in-Ok-None-clause-cost : goal.returns-in-Ok-None-clause-cost
+returns-in-Ok-None-clause-cost g c = omega (arith, c.shown.ensures.cost)
+
+pub returns-in-Ok-clause-fails : goal.returns-in-Ok-clause-fails
+returns-in-Ok-clause-fails g c = record { cause = tt; missing = λ ss s. tt; right = λ ss s. tt; sound = λ m named ss knows. tt }
+
+pub returns-in-Ok-clause-misses : goal.returns-in-Ok-clause-misses
+returns-in-Ok-clause-misses g c = tt
+
+pub returns-in-Ok-clause-early : goal.returns-in-Ok-clause-early
+returns-in-Ok-clause-early g c = tt
+
+pub returns-in-Ok-clause-cost : goal.returns-in-Ok-clause-cost
+returns-in-Ok-clause-cost g c = omega (arith, c.shown.ensures.cost, c.touch.ensures.cost)
+
+pub returns-in-Err-clause-comes : goal.returns-in-Err-clause-comes
+returns-in-Err-clause-comes g c = record { ready = tt; slot = λ m named ss knows. tt; none = λ m named ss knows. tt }
+
+pub returns-in-Err-clause-stays : goal.returns-in-Err-clause-stays
+returns-in-Err-clause-stays g c = c.shown.ensures.stays
+
+pub returns-in-Err-clause-idle : goal.returns-in-Err-clause-idle
+returns-in-Err-clause-idle g c = λ ready apart. let one = c.in-Err.ensures.idle ready apart in (one.1, one.2, one.3)
+
+pub returns-in-Err-clause-cost : goal.returns-in-Err-clause-cost
+returns-in-Err-clause-cost g c = omega (arith, c.shown.ensures.cost)
+
+pub returns-in-Err-touch-clause-comes : goal.returns-in-Err-touch-clause-comes
+returns-in-Err-touch-clause-comes g c = record { ready = tt; slot = λ m named ss knows. tt; none = λ m named ss knows. tt }
+
+pub returns-in-Err-touch-clause-cost : goal.returns-in-Err-touch-clause-cost
+returns-in-Err-touch-clause-cost g c = omega (arith, c.shown.ensures.cost, c.touch.ensures.cost)

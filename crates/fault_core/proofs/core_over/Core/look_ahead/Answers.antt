@@ -138,3 +138,64 @@ returns-clause-brings g c = rw c.look_for.ensures.same c.refer.ensures.brings
 
 pub returns-in-Err-clause-fails : goal.returns-in-Err-clause-fails
 returns-in-Err-clause-fails g c = failed_on c.in-Err.halt c.in-Err.ensures.fails
+
+pub returns-in-Ok-NoMap-clause-fails : goal.returns-in-Ok-NoMap-clause-fails
+returns-in-Ok-NoMap-clause-fails g c = record { cause = tt; right = λ ss s. tt; sound = λ m named ss knows. tt }
+
+pub returns-in-Ok-NoMap-clause-stays : goal.returns-in-Ok-NoMap-clause-stays
+returns-in-Ok-NoMap-clause-stays g c = c.refer.ensures.stays
+
+pub returns-in-Ok-NoMap-clause-brings : goal.returns-in-Ok-NoMap-clause-brings
+returns-in-Ok-NoMap-clause-brings g c = c.refer.ensures.brings
+
+pub returns-in-Ok-NoMap-clause-idle : goal.returns-in-Ok-NoMap-clause-idle
+returns-in-Ok-NoMap-clause-idle g c = λ first last apart. let one = c.in-Ok-NoMap.ensures.idle first last apart in (refl, one.2, one.3)
+
+pub returns-in-Ok-NoMap-clause-cost : goal.returns-in-Ok-NoMap-clause-cost
+returns-in-Ok-NoMap-clause-cost g c = c.refer.ensures.cost
+
+pub returns-in-Ok-ReadOnly-clause-fails : goal.returns-in-Ok-ReadOnly-clause-fails
+returns-in-Ok-ReadOnly-clause-fails g c = record { cause = tt; right = λ ss s. tt; sound = λ m named ss knows. tt }
+
+pub returns-in-Ok-ReadOnly-clause-stays : goal.returns-in-Ok-ReadOnly-clause-stays
+returns-in-Ok-ReadOnly-clause-stays g c = c.refer.ensures.stays
+
+pub returns-in-Ok-ReadOnly-clause-brings : goal.returns-in-Ok-ReadOnly-clause-brings
+returns-in-Ok-ReadOnly-clause-brings g c = c.refer.ensures.brings
+
+pub returns-in-Ok-ReadOnly-clause-idle : goal.returns-in-Ok-ReadOnly-clause-idle
+returns-in-Ok-ReadOnly-clause-idle g c = λ first last apart. let one = c.in-Ok-ReadOnly.ensures.idle first last apart in (refl, one.2, one.3)
+
+pub returns-in-Ok-ReadOnly-clause-cost : goal.returns-in-Ok-ReadOnly-clause-cost
+returns-in-Ok-ReadOnly-clause-cost g c = c.refer.ensures.cost
+
+pub returns-in-Err-clause-comes : goal.returns-in-Err-clause-comes
+returns-in-Err-clause-comes g c = record {
+  clients = tt;
+  here = tt;
+  slots = λ m named ss knows. tt;
+  granted = λ m named ss knows. tt;
+  access = λ m named ss knows. tt;
+  absent = λ m named ss knows. tt;
+  referred = tt;
+  unmoved = tt;
+  present = λ first last apart. tt;
+}
+
+pub returns-in-Err-clause-stays : goal.returns-in-Err-clause-stays
+returns-in-Err-clause-stays g c = c.refer.ensures.stays
+
+pub returns-in-Err-clause-brings : goal.returns-in-Err-clause-brings
+returns-in-Err-clause-brings g c = c.refer.ensures.brings
+
+pub returns-in-Err-clause-idle : goal.returns-in-Err-clause-idle
+returns-in-Err-clause-idle g c = λ first last apart. let one = c.in-Err.ensures.idle first last apart in (one.1, one.2, one.3)
+
+pub returns-in-Err-clause-cost : goal.returns-in-Err-clause-cost
+returns-in-Err-clause-cost g c = c.refer.ensures.cost
+
+pub returns-clause-fails : goal.returns-clause-fails
+returns-clause-fails g c = record { cause = tt; right = λ ss s. tt; sound = λ m named ss knows. tt }
+
+pub returns-clause-cost : goal.returns-clause-cost
+returns-clause-cost g c = rw c.look_for.ensures.same c.refer.ensures.cost

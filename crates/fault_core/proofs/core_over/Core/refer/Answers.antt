@@ -21,13 +21,13 @@ use Rattle.filer_kernel.specs.View.{accepted}
 
 pub returns-in-Ok-None-clause-comes : goal.returns-in-Ok-None-clause-comes
 returns-in-Ok-None-clause-comes g c = record {
-  form = search rules;
-  one = search rules;
-  is_kept = search rules;
+  form = tt;
+  one = tt;
+  is_kept = tt;
   access = λ m named ss knows.
       no_map_first ss c.args.writes c.args.address c.args.count ((c.in-Ok-None.ensures.comes.none m named ss knows).0 c.in-Ok-None.field-0-is);
-  intervals_at = search rules;
-  seen = search rules;
+  intervals_at = λ m named ss knows. tt;
+  seen = λ ss s. tt;
 }
 
 pub returns-in-Err-clause-fails : goal.returns-in-Err-clause-fails
@@ -42,17 +42,17 @@ returns-in-Err-clause-fails g c =
 
 pub returns-in-Ok-None-shown_last-clause-comes : goal.returns-in-Ok-None-shown_last-clause-comes
 returns-in-Ok-None-shown_last-clause-comes g c = record {
-  form = search rules;
-  one = search rules;
-  is_kept = search rules;
+  form = tt;
+  one = tt;
+  is_kept = tt;
   access = λ m named ss knows.
       let x = c.in-Ok-Some.x in
       let at = at_of ss c.in-Ok-Some.field-0 x (c.args.address / 512) c.in-Ok-Some.field-0-is (c.in-Ok-Some.ensures.comes.interval m named ss knows) in
       let shows = shows_of c.in-Ok-Some.field-0 x (c.args.address / 512) c.in-Ok-Some.field-0-is c.in-Ok-Some.ensures.comes.form in
       let none : shown_at ss (last_page c.args.address c.args.count) ≡ None = rw (← c.last_page-last.ensures) ((c.in-Ok-None-shown_last.ensures.comes.none m named ss (c.in-Ok-Some.ensures.stays.same m named ss knows)).0 c.in-Ok-None-shown_last.field-0-is) in
       rw c.last_page-last.ensures (no_map_last ss c.args.writes c.args.address c.args.count _ (shown_is knows.tables x (interval_of ss (c.args.address / 512) x at) (c.args.address / 512) shows.holds shows.mapped) none);
-  intervals_at = search rules;
-  seen = search rules;
+  intervals_at = λ m named ss knows. tt;
+  seen = λ ss s. tt;
 }
 
 pub returns-in-Ok-None-shown_last-clause-stays : goal.returns-in-Ok-None-shown_last-clause-stays
@@ -157,3 +157,65 @@ returns-clause-idle g c = λ first last apart.
       two.2 ∙ one.2,
       two.3 ∙ one.3,
     )
+
+pub returns-in-Ok-None-clause-fails : goal.returns-in-Ok-None-clause-fails
+returns-in-Ok-None-clause-fails g c = record { cause = tt; right = λ ss s. tt; sound = λ m named ss knows. tt }
+
+pub returns-in-Ok-None-clause-stays : goal.returns-in-Ok-None-clause-stays
+returns-in-Ok-None-clause-stays g c = c.shown.ensures.stays
+
+pub returns-in-Ok-None-clause-brings : goal.returns-in-Ok-None-clause-brings
+returns-in-Ok-None-clause-brings g c = c.shown.ensures.brings
+
+pub returns-in-Ok-None-clause-idle : goal.returns-in-Ok-None-clause-idle
+returns-in-Ok-None-clause-idle g c = λ first last apart. let one = c.in-Ok-None.ensures.idle first apart in (tt, refl, one.2, one.3)
+
+pub returns-in-Ok-None-clause-cost : goal.returns-in-Ok-None-clause-cost
+returns-in-Ok-None-clause-cost g c = omega (arith, c.shown.ensures.cost)
+
+pub returns-in-Err-clause-comes : goal.returns-in-Err-clause-comes
+returns-in-Err-clause-comes g c = record {
+  form = tt;
+  one = tt;
+  is_kept = tt;
+  access = λ m named ss knows. tt;
+  intervals_at = λ m named ss knows. tt;
+  seen = λ ss s. tt;
+}
+
+pub returns-in-Err-clause-stays : goal.returns-in-Err-clause-stays
+returns-in-Err-clause-stays g c = c.shown.ensures.stays
+
+pub returns-in-Err-clause-brings : goal.returns-in-Err-clause-brings
+returns-in-Err-clause-brings g c = c.shown.ensures.brings
+
+pub returns-in-Err-clause-idle : goal.returns-in-Err-clause-idle
+returns-in-Err-clause-idle g c = λ first last apart. let one = c.in-Err.ensures.idle first apart in (tt, one.1, one.2, one.3)
+
+pub returns-in-Err-clause-cost : goal.returns-in-Err-clause-cost
+returns-in-Err-clause-cost g c = omega (arith, c.shown.ensures.cost)
+
+pub returns-in-Ok-None-shown_last-clause-fails : goal.returns-in-Ok-None-shown_last-clause-fails
+returns-in-Ok-None-shown_last-clause-fails g c = record { cause = tt; right = λ ss s. tt; sound = λ m named ss knows. tt }
+
+pub returns-in-Ok-None-shown_last-clause-cost : goal.returns-in-Ok-None-shown_last-clause-cost
+returns-in-Ok-None-shown_last-clause-cost g c = omega (arith, c.shown.ensures.cost, c.shown_last.ensures.cost)
+
+pub returns-in-Err-shown_last-clause-comes : goal.returns-in-Err-shown_last-clause-comes
+returns-in-Err-shown_last-clause-comes g c = record {
+  form = tt;
+  one = tt;
+  is_kept = tt;
+  access = λ m named ss knows. tt;
+  intervals_at = λ m named ss knows. tt;
+  seen = λ ss s. tt;
+}
+
+pub returns-in-Err-shown_last-clause-cost : goal.returns-in-Err-shown_last-clause-cost
+returns-in-Err-shown_last-clause-cost g c = omega (arith, c.shown.ensures.cost, c.shown_last.ensures.cost)
+
+pub returns-clause-fails : goal.returns-clause-fails
+returns-clause-fails g c = record { cause = tt; right = λ ss s. tt; sound = λ m named ss knows. tt }
+
+pub returns-clause-cost : goal.returns-clause-cost
+returns-clause-cost g c = omega (arith, c.shown.ensures.cost, c.shown_last.ensures.cost)

@@ -1,4 +1,4 @@
-use Rattle.std.proofs.Common.{rules, ◌≡◌, ◌+◌, ◌≤◌, true, false, inl, inr, arith}
+use Rattle.std.proofs.Common.{rules, refl, ◌≡◌, ◌+◌, ◌≤◌, true, false, inl, inr, arith}
 use Rattle.swap_units.specs.Mode.{is_mapped}
 use Rattle.swapper_kernel.specs.HaltLaws.{brings_then}
 use Rattle.fault_core.specs.Core.{core_view, state}
@@ -166,3 +166,54 @@ returns-in-Err-write_back_run-clause-stay g c = run_yields c.args.write_back _ _
 
 pub returns-in-Err-clause-fails : goal.returns-in-Err-clause-fails
 returns-in-Err-clause-fails g c = failed_on c.in-Err.halt c.in-Err.ensures.fails
+
+pub returns-in-Ok-None-clause-fails : goal.returns-in-Ok-None-clause-fails
+returns-in-Ok-None-clause-fails g c = record { cause = tt; right = λ ss s. tt; sound = λ m named ss knows. tt }
+
+pub returns-in-Ok-None-clause-stays : goal.returns-in-Ok-None-clause-stays
+returns-in-Ok-None-clause-stays g c = c.describe.ensures.stays
+
+pub returns-in-Ok-None-clause-brings : goal.returns-in-Ok-None-clause-brings
+returns-in-Ok-None-clause-brings g c = record { reaches = c.describe.ensures.brings.reaches; came = c.describe.ensures.brings.came }
+
+pub returns-in-Ok-None-clause-all : goal.returns-in-Ok-None-clause-all
+returns-in-Ok-None-clause-all g c = λ x is within. refl
+
+pub returns-in-Ok-None-clause-cost : goal.returns-in-Ok-None-clause-cost
+returns-in-Ok-None-clause-cost g c = omega (arith, c.describe.ensures.cost)
+
+pub returns-in-Err-clause-comes : goal.returns-in-Err-clause-comes
+returns-in-Err-clause-comes g c = record { further = tt; rest = λ m named ss knows. tt; part = λ m named ss knows. tt }
+
+pub returns-in-Err-clause-stays : goal.returns-in-Err-clause-stays
+returns-in-Err-clause-stays g c = c.describe.ensures.stays
+
+pub returns-in-Err-clause-brings : goal.returns-in-Err-clause-brings
+returns-in-Err-clause-brings g c = record { reaches = c.describe.ensures.brings.reaches; came = c.describe.ensures.brings.came }
+
+pub returns-in-Err-clause-all : goal.returns-in-Err-clause-all
+returns-in-Err-clause-all g c = λ x is within. tt
+
+pub returns-in-Err-clause-cost : goal.returns-in-Err-clause-cost
+returns-in-Err-clause-cost g c = omega (arith, c.describe.ensures.cost)
+
+pub returns-then-not-is_mapped-clause-fails : goal.returns-then-not-is_mapped-clause-fails
+returns-then-not-is_mapped-clause-fails g c = record { cause = tt; right = λ ss s. tt; sound = λ m named ss knows. tt }
+
+pub returns-then-not-is_mapped-clause-stays : goal.returns-then-not-is_mapped-clause-stays
+returns-then-not-is_mapped-clause-stays g c = c.describe.ensures.stays
+
+pub returns-then-not-is_mapped-clause-brings : goal.returns-then-not-is_mapped-clause-brings
+returns-then-not-is_mapped-clause-brings g c = record { reaches = c.describe.ensures.brings.reaches; came = c.describe.ensures.brings.came }
+
+pub returns-then-not-is_mapped-clause-cost : goal.returns-then-not-is_mapped-clause-cost
+returns-then-not-is_mapped-clause-cost g c = omega (arith, c.describe.ensures.cost)
+
+pub returns-in-Ok-clause-fails : goal.returns-in-Ok-clause-fails
+returns-in-Ok-clause-fails g c = record { cause = tt; right = λ ss s. tt; sound = λ m named ss knows. tt }
+
+pub returns-in-Err-write_back_run-clause-comes : goal.returns-in-Err-write_back_run-clause-comes
+returns-in-Err-write_back_run-clause-comes g c = record { further = tt; rest = λ m named ss knows. tt; part = λ m named ss knows. tt }
+
+pub returns-in-Err-write_back_run-clause-all : goal.returns-in-Err-write_back_run-clause-all
+returns-in-Err-write_back_run-clause-all g c = λ x is within. tt

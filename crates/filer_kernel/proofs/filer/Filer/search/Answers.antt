@@ -33,34 +33,34 @@ returns-clause-read g c =
     let read = rw (c.over-map.ensures.memory, c.map_memory.ensures.value, c.map_memory.ensures.which) at c.find.ensures.read in
     rw c.halted.ensures (ok_shown c.find.result c.args.self.now.swapper.layout (g.D.Disk.state c.args.self.now.swapper.disk) c.args.self.now.swapper.pool c.requires.size read)
 
-pub returns-clause-sound : goal.returns-clause-sound
-returns-clause-sound g c = λ m named stands map labels.
-    rw c.halted.ensures (map_sound c.find.result _ c.over-map.result.sectors ⊥ c.args.self.now.swapper.layout _ _ c.args.self.now.swapper.pool (answer g c m named stands map) (cause g c) m stands labels)
+pub returns-clause-fails : goal.returns-clause-fails
+returns-clause-fails g c = record {
+  sound = λ m named stands map labels.
+      rw c.halted.ensures (map_sound c.find.result _ c.over-map.result.sectors ⊥ c.args.self.now.swapper.layout _ _ c.args.self.now.swapper.pool (answer g c m named stands map) (cause g c) m stands labels);
+  right = λ m named stands map.
+      rw c.halted.ensures (map_right c.find.result _ c.over-map.result.sectors ⊥ c.args.self.now.swapper.layout _ _ c.args.self.now.swapper.pool (answer g c m named stands map) (cause g c));
+  cause =
+      let of = c.over-map.ensures.sectors ∙ ap (λ (l : Layout). l.sectors) c.layout-layout.ensures in
+      let halts : IfErr c.halted.result (MapHalts c.args.self.now.swapper.layout (g.D.Disk.state c.args.self.now.swapper.disk) c.args.self.now.swapper.pool (g.D.Disk.state c.find.new.self.mem.swapper.now.disk)) =
+      rw c.halted.ensures (map_halts c.find.result _ c.args.self.now.swapper.layout (g.D.Disk.state c.args.self.now.swapper.disk) _ c.args.self.now.swapper.pool of c.requires.size (cause g c)) in
+      search (rules, halts);
+}
 
-pub returns-clause-right : goal.returns-clause-right
-returns-clause-right g c = λ m named stands map.
-    rw c.halted.ensures (map_right c.find.result _ c.over-map.result.sectors ⊥ c.args.self.now.swapper.layout _ _ c.args.self.now.swapper.pool (answer g c m named stands map) (cause g c))
-
-pub returns-clause-same : goal.returns-clause-same
-returns-clause-same g c = λ m named stands map.
-    let revealed = map_revealed c.requires.size m named stands map in
-    let which = rw (c.over-map.ensures.memory, c.map_memory.ensures.which) at c.find.ensures.kept.1 in
-    let kept = rw (c.over-map.ensures.memory, c.map_memory.ensures.value, c.map_memory.ensures.which) at c.find.ensures.kept.2 in
-    lent (λ d s. Stands d s m) _ (g.D.Disk.state c.find.new.self.mem.swapper.now.disk) _ c.find.new.self.mem.swapper.now.pool (search rules) (search rules)
-    (stays_shown which kept m stands map.bytes map.shows (c.find.ensures.same_bytes map.bytes (rw (c.over-map.ensures.memory, c.map_memory.ensures.value, c.map_memory.ensures.which) revealed)))
-
-pub returns-clause-cause : goal.returns-clause-cause
-returns-clause-cause g c =
-    let of = c.over-map.ensures.sectors ∙ ap (λ (l : Layout). l.sectors) c.layout-layout.ensures in
-    let halts : IfErr c.halted.result (MapHalts c.args.self.now.swapper.layout (g.D.Disk.state c.args.self.now.swapper.disk) c.args.self.now.swapper.pool (g.D.Disk.state c.find.new.self.mem.swapper.now.disk)) =
-    rw c.halted.ensures (map_halts c.find.result _ c.args.self.now.swapper.layout (g.D.Disk.state c.args.self.now.swapper.disk) _ c.args.self.now.swapper.pool of c.requires.size (cause g c)) in
-    search (rules, halts)
-
-pub returns-clause-same_bytes : goal.returns-clause-same_bytes
-returns-clause-same_bytes g c = λ b reveals.
-    let x = c.args.self.now.swapper.layout in
-    let mem = c.find.new.self.mem in
-    let which = rw (c.over-map.ensures.memory, c.map_memory.ensures.which) at c.find.ensures.kept.1 in
-    let kept = rw (c.over-map.ensures.memory, c.map_memory.ensures.value, c.map_memory.ensures.which) at c.find.ensures.kept.2 in
-    lent (λ d s. Reveals FileMap d s x b) _ (g.D.Disk.state mem.swapper.now.disk) _ mem.swapper.now.pool (search rules) (search rules)
-    (revealed_at which kept.layout b (c.find.ensures.same_bytes b (rw (c.over-map.ensures.memory, c.map_memory.ensures.value, c.map_memory.ensures.which) reveals)))
+pub returns-clause-leaves : goal.returns-clause-leaves
+returns-clause-leaves g c = record {
+  same = λ m named stands map.
+      let revealed = map_revealed c.requires.size m named stands map in
+      let which = rw (c.over-map.ensures.memory, c.map_memory.ensures.which) at c.find.ensures.kept.1 in
+      let kept = rw (c.over-map.ensures.memory, c.map_memory.ensures.value, c.map_memory.ensures.which) at c.find.ensures.kept.2 in
+      lent (λ d s. Stands d s m) _ (g.D.Disk.state c.find.new.self.mem.swapper.now.disk) _ c.find.new.self.mem.swapper.now.pool (search rules) (search rules)
+      (stays_shown which kept m stands map.bytes map.shows (c.find.ensures.same_bytes map.bytes (rw (c.over-map.ensures.memory, c.map_memory.ensures.value, c.map_memory.ensures.which) revealed)));
+  same_bytes = λ b reveals.
+      let x = c.args.self.now.swapper.layout in
+      let mem = c.find.new.self.mem in
+      let which = rw (c.over-map.ensures.memory, c.map_memory.ensures.which) at c.find.ensures.kept.1 in
+      let kept = rw (c.over-map.ensures.memory, c.map_memory.ensures.value, c.map_memory.ensures.which) at c.find.ensures.kept.2 in
+      lent (λ d s. Reveals FileMap d s x b) _ (g.D.Disk.state mem.swapper.now.disk) _ mem.swapper.now.pool (search rules) (search rules)
+      (revealed_at which kept.layout b (c.find.ensures.same_bytes b (rw (c.over-map.ensures.memory, c.map_memory.ensures.value, c.map_memory.ensures.which) reveals)));
+  beside = search rules;
+  looked = search rules;
+}

@@ -11,11 +11,6 @@ use Rattle.filer_kernel.proofs.MapLemmas.{stays_shown}
 use Rattle.filer_kernel.proofs.MarkLemmas.{becomes_marked, bits_revealed}
 use Rattle.filer_kernel.proofs.filer.Filer.take.Goals as goal
 
-pub returns-clause-sound : goal.returns-clause-sound
-returns-clause-sound g c = λ m stands named.
-    err_wider c.take-answer.result _ (IfMem (λ e. e ≡ halt.Disk)) (λ e is. mem_wider _ (λ h. h ≡ halt.Disk) (λ h acc. acc.sound m stands named) e is)
-    (rw (c.over-map.ensures.memory, c.map_memory.ensures.value, c.map_memory.ensures.which) at c.take-answer.ensures.cause)
-
 pub returns-clause-taken : goal.returns-clause-taken
 returns-clause-taken g c = λ m marks stands bits.
     let x = c.args.self.now.swapper.layout in
@@ -33,3 +28,11 @@ returns-clause-same g c = λ m marks stands bits full.
     let kept = rw (c.over-map.ensures.memory, c.map_memory.ensures.value, c.map_memory.ensures.which) at c.take-answer.ensures.kept.2 in
     lent (λ d s. Stands d s m) _ (g.D.Disk.state c.take-answer.new.self.mem.swapper.now.disk) _ c.take-answer.new.self.mem.swapper.now.pool (search rules) (search rules)
     (stays_shown which kept m stands bits.bytes bits.shows (c.take-answer.ensures.unchanged bits.bytes (rw (c.over-map.ensures.memory, c.map_memory.ensures.value, c.map_memory.ensures.which) revealed) full))
+
+pub returns-clause-fails : goal.returns-clause-fails
+returns-clause-fails g c = record {
+  sound = λ m stands named.
+      err_wider c.take-answer.result _ (IfMem (λ e. e ≡ halt.Disk)) (λ e is. mem_wider _ (λ h. h ≡ halt.Disk) (λ h acc. acc.sound m stands named) e is)
+      (rw (c.over-map.ensures.memory, c.map_memory.ensures.value, c.map_memory.ensures.which) at c.take-answer.ensures.cause);
+  cause = search rules;
+}

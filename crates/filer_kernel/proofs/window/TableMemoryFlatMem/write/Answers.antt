@@ -19,7 +19,7 @@ returns-then-is_empty-clause-kept g c =
 pub returns-in_err-slot-clause-unchanged : goal.returns-in_err-slot-clause-unchanged
 returns-in_err-slot-clause-unchanged g c = λ b reveals.
     let same : c.from_residual.result ≡ Err c.in_err-slot.field-0.0 = search rules in
-    rw same (c.in_err-slot.ensures.same b reveals)
+    rw same (c.in_err-slot.ensures.looks.same b reveals)
 
 pub change-requires-clause-filled : goal.change-requires-clause-filled
 change-requires-clause-filled g c =
@@ -34,7 +34,7 @@ returns-clause-written g c =
     let place : 512 * (c.args.at / 512) + c.args.at % 512 ≡ c.args.at = omega arith in
     λ b reveals.
     let changed = tables_changed now.swapper.accepted (c.args.at / 512) below c.change.ensures.layout there.0 (now.swapper.placed c.in_ok-slot.slot there.0 there.1) there.2 there.3 (c.args.at % 512) c.args.bytes.now
-    c.requires.in_one_page (c.change.ensures.goes there.0 there.1) c.in_ok-slot.slot there.1 (c.change.ensures.frame there.0 there.1) b (c.in_ok-slot.ensures.same b reveals) in
+    c.requires.in_one_page (c.change.ensures.goes there.0 there.1) c.in_ok-slot.slot there.1 (c.change.ensures.frame there.0 there.1) b (c.in_ok-slot.ensures.looks.same b reveals) in
     subst (λ (n : ℕ). TablesReveal (g.D.Disk.state c.change.new.self.disk) c.change.new.self.pool c.change.new.self.layout now.runs (overwritten b n c.args.bytes.now)) place changed
 
 pub returns-clause-kept : goal.returns-clause-kept
@@ -44,4 +44,4 @@ returns-clause-kept g c =
     let there = c.in_ok-slot.ensures.there in
     let changed = beside_changed now.swapper.accepted (c.args.at / 512) below c.change.ensures.layout there.0 (now.swapper.placed c.in_ok-slot.slot there.0 there.1) there.2 there.3 (c.args.at % 512) c.args.bytes.now c.requires.in_one_page
     (c.change.ensures.goes there.0 there.1) c.in_ok-slot.slot there.1 (c.change.ensures.frame there.0 there.1) (c.change.ensures.steps there.0 there.1) in
-    (refl, beside_tables_then c.args.self.now.filer.now.swapper.accepted c.in_ok-slot.ensures.kept changed)
+    (refl, beside_tables_then c.args.self.now.filer.now.swapper.accepted c.in_ok-slot.ensures.looks.kept changed)

@@ -17,69 +17,37 @@ returns-in_err-write_out-clause-cause g c =
     let same : c.from_residual.result ≡ Err c.in_err-write_out.field-0.0 = search rules in
     rw (same, ← c.victim-slot.ensures.same) (halts_wider no_home (λ (h : Home). h ≡ c.args.home) (g.D.Disk.state c.args.self.now.disk) (g.D.Disk.state c.write_out.new.self.disk) _ (λ h no. absurd no) c.in_err-write_out.field-0.0 c.in_err-write_out.ensures.cause)
 
-pub returns-in_err-write_out-clause-steps : goal.returns-in_err-write_out-clause-steps
-returns-in_err-write_out-clause-steps g c =
-    rw (← c.victim-slot.ensures.same) (steps_wider (λ (h : Home). h ≡ c.args.home) no_home (λ h no. absurd no) (λ h no. no) c.write_out.ensures.steps)
-
-pub returns-in_err-write_out-clause-brings : goal.returns-in_err-write_out-clause-brings
-returns-in_err-write_out-clause-brings g c = rw (← c.victim-slot.ensures.same) (brings_same (λ (h : Home). h ≡ c.args.home) c.write_out.ensures.frames)
-
 pub returns-in_err-write_out-clause-stays : goal.returns-in_err-write_out-clause-stays
 returns-in_err-write_out-clause-stays g c = λ i f has within.
-    c.write_out.ensures.others i f (not_victim _ c.victim-slot.result _ _ _ c.victim-slot.ensures.outside i f (rw c.victim-slot.ensures.same has) within) (rw c.victim-slot.ensures.same has)
+    c.write_out.ensures.keeps.others i f (not_victim _ c.victim-slot.result _ _ _ c.victim-slot.ensures.outside i f (rw c.victim-slot.ensures.same has) within) (rw c.victim-slot.ensures.same has)
 
 pub load-requires-clause-nowhere : goal.load-requires-clause-nowhere
 load-requires-clause-nowhere g c = λ i f has ids pages.
-    let old = c.write_out.ensures.frames i f has in
+    let old = c.write_out.ensures.keeps.frames i f has in
     c.find.ensures.nowhere.0 c.in_default.is i old.0 (rw (← c.victim-slot.ensures.same) old.1) (ap (λ (x : Home). x.id) old.2 ∙ ids) (ap (λ (x : Home). x.page) old.2 ∙ pages)
-
-pub load-requires-clause-full : goal.load-requires-clause-full
-load-requires-clause-full g c = λ f has j empty.
-    let old = c.write_out.ensures.frames c.victim-slot.result f has in
-    c.victim-slot.ensures.empty_first old.0 old.1 j (c.write_out.ensures.empties j empty)
 
 pub returns-in_err-load-clause-sound : goal.returns-in_err-load-clause-sound
 returns-in_err-load-clause-sound g c = λ m h named.
     let same : c.from_residual-in_err-load.result ≡ Err c.in_err-load.field-0.0 = search rules in
-    rw same (c.in_err-load.ensures.sound m (swaps_stands c.write_out.ensures.swaps m (rw c.victim-slot.ensures.same h)) named)
+    rw same (c.in_err-load.ensures.sound m (swaps_stands c.write_out.ensures.moves.swaps m (rw c.victim-slot.ensures.same h)) named)
 
 pub returns-in_err-load-clause-cause : goal.returns-in_err-load-clause-cause
 returns-in_err-load-clause-cause g c =
     let same : c.from_residual-in_err-load.result ≡ Err c.in_err-load.field-0.0 = search rules in
-    let out = c.write_out.ensures.swaps.makes in
-    let later = halts_later (λ (h : Home). h ≡ c.args.home) (λ (h : Home). h ≡ c.args.home) (λ h is. is) out.went out.wrote (brings_same (λ (h : Home). h ≡ c.args.home) c.write_out.ensures.frames)
+    let out = c.write_out.ensures.moves.swaps.makes in
+    let later = halts_later (λ (h : Home). h ≡ c.args.home) (λ (h : Home). h ≡ c.args.home) (λ h is. is) out.went out.wrote (brings_same (λ (h : Home). h ≡ c.args.home) c.write_out.ensures.keeps.frames)
     (went_itself (g.D.Disk.state c.load.new.self.disk)) c.in_err-load.field-0.0 c.in_err-load.ensures.cause in
     rw (same, ← c.victim-slot.ensures.same) later
-
-pub returns-in_err-load-clause-swaps : goal.returns-in_err-load-clause-swaps
-returns-in_err-load-clause-swaps g c = rw (← c.victim-slot.ensures.same) (swaps_then c.write_out.ensures.swaps c.load.ensures.swaps)
-
-pub returns-clause-swaps : goal.returns-clause-swaps
-returns-clause-swaps g c = rw (← c.victim-slot.ensures.same) (swaps_then c.write_out.ensures.swaps c.load.ensures.swaps)
-
-pub returns-in_err-load-clause-steps : goal.returns-in_err-load-clause-steps
-returns-in_err-load-clause-steps g c =
-    rw (← c.victim-slot.ensures.same) (steps_then (steps_wider (λ (h : Home). h ≡ c.args.home) no_home (λ h no. absurd no) (λ h no. no) c.write_out.ensures.steps) c.load.ensures.steps)
-
-pub returns-clause-steps : goal.returns-clause-steps
-returns-clause-steps g c =
-    rw (← c.victim-slot.ensures.same) (steps_then (steps_wider (λ (h : Home). h ≡ c.args.home) no_home (λ h no. absurd no) (λ h no. no) c.write_out.ensures.steps) c.load.ensures.steps)
-
-pub returns-in_err-load-clause-brings : goal.returns-in_err-load-clause-brings
-returns-in_err-load-clause-brings g c = rw (← c.victim-slot.ensures.same) (brings_then (brings_same (λ (h : Home). h ≡ c.args.home) c.write_out.ensures.frames) c.load.ensures.brings)
-
-pub returns-clause-brings : goal.returns-clause-brings
-returns-clause-brings g c = rw (← c.victim-slot.ensures.same) (brings_then (brings_same (λ (h : Home). h ≡ c.args.home) c.write_out.ensures.frames) c.load.ensures.brings)
 
 pub returns-in_err-load-clause-stays : goal.returns-in_err-load-clause-stays
 returns-in_err-load-clause-stays g c = λ i f has within.
     let apart = not_victim _ c.victim-slot.result _ _ _ c.victim-slot.ensures.outside i f (rw c.victim-slot.ensures.same has) within in
-    c.load.ensures.others i f apart (c.write_out.ensures.others i f apart (rw c.victim-slot.ensures.same has))
+    c.load.ensures.others i f apart (c.write_out.ensures.keeps.others i f apart (rw c.victim-slot.ensures.same has))
 
 pub returns-clause-stays : goal.returns-clause-stays
 returns-clause-stays g c = λ i f has within.
     let apart = not_victim _ c.victim-slot.result _ _ _ c.victim-slot.ensures.outside i f (rw c.victim-slot.ensures.same has) within in
-    c.load.ensures.others i f apart (c.write_out.ensures.others i f apart (rw c.victim-slot.ensures.same has))
+    c.load.ensures.others i f apart (c.write_out.ensures.keeps.others i f apart (rw c.victim-slot.ensures.same has))
 
 pub returns-in_err-write_out-clause-idle : goal.returns-in_err-write_out-clause-idle
 returns-in_err-write_out-clause-idle g c = λ i has. absurd (c.find.ensures.nowhere.0 c.in_default.is i has.0 has.1 has.2.0 has.2.1)
@@ -89,3 +57,32 @@ returns-in_err-load-clause-idle g c = λ i has. absurd (c.find.ensures.nowhere.0
 
 pub returns-clause-idle : goal.returns-clause-idle
 returns-clause-idle g c = λ i has. absurd (c.find.ensures.nowhere.0 c.in_default.is i has.0 has.1 has.2.0 has.2.1)
+
+pub returns-in_err-write_out-clause-moves : goal.returns-in_err-write_out-clause-moves
+returns-in_err-write_out-clause-moves g c = record {
+  swaps = rw (← c.victim-slot.ensures.same) c.write_out.ensures.moves.swaps;
+  steps = rw (← c.victim-slot.ensures.same) (steps_wider (λ (h : Home). h ≡ c.args.home) no_home (λ h no. absurd no) (λ h no. no) c.write_out.ensures.moves.steps);
+  brings = rw (← c.victim-slot.ensures.same) (brings_same (λ (h : Home). h ≡ c.args.home) c.write_out.ensures.keeps.frames);
+}
+
+pub returns-in_err-load-clause-moves : goal.returns-in_err-load-clause-moves
+returns-in_err-load-clause-moves g c = record {
+  swaps = rw (← c.victim-slot.ensures.same) (swaps_then c.write_out.ensures.moves.swaps c.load.ensures.moves.swaps);
+  steps = rw (← c.victim-slot.ensures.same) (steps_then (steps_wider (λ (h : Home). h ≡ c.args.home) no_home (λ h no. absurd no) (λ h no. no) c.write_out.ensures.moves.steps) c.load.ensures.moves.steps);
+  brings = rw (← c.victim-slot.ensures.same) (brings_then (brings_same (λ (h : Home). h ≡ c.args.home) c.write_out.ensures.keeps.frames) c.load.ensures.moves.brings);
+}
+
+pub returns-clause-moves : goal.returns-clause-moves
+returns-clause-moves g c = record {
+  swaps = rw (← c.victim-slot.ensures.same) (swaps_then c.write_out.ensures.moves.swaps c.load.ensures.moves.swaps);
+  steps = rw (← c.victim-slot.ensures.same) (steps_then (steps_wider (λ (h : Home). h ≡ c.args.home) no_home (λ h no. absurd no) (λ h no. no) c.write_out.ensures.moves.steps) c.load.ensures.moves.steps);
+  brings = rw (← c.victim-slot.ensures.same) (brings_then (brings_same (λ (h : Home). h ≡ c.args.home) c.write_out.ensures.keeps.frames) c.load.ensures.moves.brings);
+}
+
+pub load-requires-clause-fillable : goal.load-requires-clause-fillable
+load-requires-clause-fillable g c = record {
+  clean = search rules;
+  full = λ f has j empty.
+      let old = c.write_out.ensures.keeps.frames c.victim-slot.result f has in
+      c.victim-slot.ensures.empty_first old.0 old.1 j (c.write_out.ensures.keeps.empties j empty);
+}

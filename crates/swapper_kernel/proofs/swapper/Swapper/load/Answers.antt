@@ -1,7 +1,10 @@
 use Rattle.std.proofs.Common.{◌≡◌, true, false}
 use Rattle.labelled_disk.specs.Label.{names}
+use Rattle.frame_pool.specs.declared.home.Home.{Home}
 use Rattle.frame_pool.specs.Frames.{Frame, new_frame}
 use Rattle.frame_pool.specs.FrameLaws.{each_loaded, length_loaded, nowhere_cleared}
+use Rattle.swapper_kernel.specs.CourseLaws.{steps_none}
+use Rattle.swapper_kernel.specs.HaltLaws.{brings_itself}
 use Rattle.swapper_kernel.specs.Homes.{IsPlaced, wanted_at}
 use Rattle.swapper_kernel.proofs.LoadLemmas.{refilled, there, others, brings, swaps, steps, given_other, named_holds}
 use Rattle.swapper_kernel.proofs.PlacedLemmas.{inside}
@@ -29,31 +32,9 @@ pub returns-clause-there : goal.returns-clause-there
 returns-clause-there g c =
     there c.args.self.now.pool _ c.args.slot c.args.home c.read.new.page c.requires.below (refilled _ _ _ _ _ c.clear.ensures.value c.put.ensures)
 
-pub returns-clause-swaps : goal.returns-clause-swaps
-returns-clause-swaps g c =
-    let named : names c.in-Ok.found (wanted_at c.args.home) ≡ true = cc (c.names.ensures, c.if-not-names.false) in
-    swaps c.args.self.now.pool _ c.args.slot c.args.home c.read.new.page c.requires.below (refilled _ _ _ _ _ c.clear.ensures.value c.put.ensures)
-    c.requires.clean c.requires.nowhere c.in-Ok.found c.in-Ok.ensures.found c.read.ensures.same named c.read.ensures.moves
-
-pub returns-clause-steps : goal.returns-clause-steps
-returns-clause-steps g c =
-    let named : names c.in-Ok.found (wanted_at c.args.home) ≡ true = cc (c.names.ensures, c.if-not-names.false) in
-    steps c.args.self.now.pool _ c.args.slot c.args.home c.read.new.page c.requires.below (refilled _ _ _ _ _ c.clear.ensures.value c.put.ensures)
-    c.requires.clean c.requires.nowhere c.in-Ok.found c.in-Ok.ensures.found c.read.ensures.same named c.requires.full
-
-pub returns-clause-brings : goal.returns-clause-brings
-returns-clause-brings g c =
-    brings c.args.self.now.pool _ c.args.slot c.args.home c.read.new.page c.requires.below (refilled _ _ _ _ _ c.clear.ensures.value c.put.ensures)
-
 pub returns-clause-others : goal.returns-clause-others
 returns-clause-others g c =
     others c.args.self.now.pool _ c.args.slot c.args.home c.read.new.page c.requires.below (refilled _ _ _ _ _ c.clear.ensures.value c.put.ensures)
-
-pub returns-in_default-clause-swaps : goal.returns-in_default-clause-swaps
-returns-in_default-clause-swaps g c = step_laws.read _ _ c.args.self.now.pool c.read.ensures.same c.read.ensures.moves
-
-pub returns-then-not-names-clause-swaps : goal.returns-then-not-names-clause-swaps
-returns-then-not-names-clause-swaps g c = step_laws.read _ _ c.args.self.now.pool c.read.ensures.same c.read.ensures.moves
 
 pub returns-then-not-names-clause-sound : goal.returns-then-not-names-clause-sound
 returns-then-not-names-clause-sound g c = λ m h named.
@@ -64,3 +45,30 @@ pub returns-then-not-names-clause-cause : goal.returns-then-not-names-clause-cau
 returns-then-not-names-clause-cause g c =
     let other : names c.in-Ok.found (wanted_at c.args.home) ≡ false = cc (c.names.ensures, c.if-not-names.true) in
     given_other c.args.self.now.pool c.args.home _ c.in-Ok.found c.read.new.page other c.in-Ok.ensures.found
+
+pub returns-clause-moves : goal.returns-clause-moves
+returns-clause-moves g c = record {
+  swaps =
+      let named : names c.in-Ok.found (wanted_at c.args.home) ≡ true = cc (c.names.ensures, c.if-not-names.false) in
+      swaps c.args.self.now.pool _ c.args.slot c.args.home c.read.new.page c.requires.below (refilled _ _ _ _ _ c.clear.ensures.value c.put.ensures)
+      c.requires.fillable.clean c.requires.nowhere c.in-Ok.found c.in-Ok.ensures.found c.read.ensures.same named c.read.ensures.moves;
+  steps =
+      let named : names c.in-Ok.found (wanted_at c.args.home) ≡ true = cc (c.names.ensures, c.if-not-names.false) in
+      steps c.args.self.now.pool _ c.args.slot c.args.home c.read.new.page c.requires.below (refilled _ _ _ _ _ c.clear.ensures.value c.put.ensures)
+      c.requires.fillable.clean c.requires.nowhere c.in-Ok.found c.in-Ok.ensures.found c.read.ensures.same named c.requires.fillable.full;
+  brings = brings c.args.self.now.pool _ c.args.slot c.args.home c.read.new.page c.requires.below (refilled _ _ _ _ _ c.clear.ensures.value c.put.ensures);
+}
+
+pub returns-in_default-clause-moves : goal.returns-in_default-clause-moves
+returns-in_default-clause-moves g c = record {
+  swaps = step_laws.read _ _ c.args.self.now.pool c.read.ensures.same c.read.ensures.moves;
+  steps = steps_none c.args.self.now.pool c.read.ensures.same;
+  brings = brings_itself (λ (h : Home). h ≡ c.args.home) c.args.self.now.pool;
+}
+
+pub returns-then-not-names-clause-moves : goal.returns-then-not-names-clause-moves
+returns-then-not-names-clause-moves g c = record {
+  swaps = step_laws.read _ _ c.args.self.now.pool c.read.ensures.same c.read.ensures.moves;
+  steps = steps_none c.args.self.now.pool c.read.ensures.same;
+  brings = brings_itself (λ (h : Home). h ≡ c.args.home) c.args.self.now.pool;
+}

@@ -10,13 +10,13 @@ pub returns-in_err-slot-clause-kept : goal.returns-in_err-slot-clause-kept
 returns-in_err-slot-clause-kept g c =
     let self = c.args.self.now in
     let below : c.args.at / 512 < pages_of self.which self.swapper.now.layout = search rules in
-    (refl, refl, beside_swaps self.which (c.args.at / 512) below c.fetch_map_page.ensures.layout c.fetch_map_page.ensures.swaps c.fetch_map_page.ensures.brings c.fetch_map_page.ensures.steps)
+    (refl, refl, beside_swaps self.which (c.args.at / 512) below c.fetch_map_page.ensures.layout c.fetch_map_page.ensures.moves.swaps c.fetch_map_page.ensures.moves.brings c.fetch_map_page.ensures.moves.steps)
 
 pub returns-in_err-slot-clause-looked : goal.returns-in_err-slot-clause-looked
 returns-in_err-slot-clause-looked g c =
     let self = c.args.self.now in
     let below : c.args.at / 512 < pages_of self.which self.swapper.now.layout = search rules in
-    (refl, refl, looked_swaps self.which (c.args.at / 512) below c.fetch_map_page.ensures.layout c.fetch_map_page.ensures.swaps c.fetch_map_page.ensures.brings c.fetch_map_page.ensures.steps)
+    (refl, refl, looked_swaps self.which (c.args.at / 512) below c.fetch_map_page.ensures.layout c.fetch_map_page.ensures.moves.swaps c.fetch_map_page.ensures.moves.brings c.fetch_map_page.ensures.moves.steps)
 
 pub returns-in_err-slot-clause-cause : goal.returns-in_err-slot-clause-cause
 returns-in_err-slot-clause-cause g c =
@@ -34,7 +34,7 @@ pub returns-clause-read : goal.returns-clause-read
 returns-clause-read g c = λ b reveals.
     let self = c.args.self.now in
     let below : c.args.at / 512 < pages_of self.which self.swapper.now.layout = search rules in
-    let now = swaps_stands c.fetch_map_page.ensures.swaps reveals.memory reveals.stands in
+    let now = swaps_stands c.fetch_map_page.ensures.moves.swaps reveals.memory reveals.stands in
     let there = c.in_ok-slot.ensures.there in
     let place : 512 * (c.args.at / 512) + c.args.at % 512 ≡ c.args.at = omega arith in
     c.copy_out-2.ensures there.0 there.1
@@ -45,13 +45,13 @@ pub returns-clause-kept : goal.returns-clause-kept
 returns-clause-kept g c =
     let self = c.args.self.now in
     let below : c.args.at / 512 < pages_of self.which self.swapper.now.layout = search rules in
-    (refl, refl, beside_swaps self.which (c.args.at / 512) below c.fetch_map_page.ensures.layout c.fetch_map_page.ensures.swaps c.fetch_map_page.ensures.brings c.fetch_map_page.ensures.steps)
+    (refl, refl, beside_swaps self.which (c.args.at / 512) below c.fetch_map_page.ensures.layout c.fetch_map_page.ensures.moves.swaps c.fetch_map_page.ensures.moves.brings c.fetch_map_page.ensures.moves.steps)
 
 pub returns-clause-looked : goal.returns-clause-looked
 returns-clause-looked g c =
     let self = c.args.self.now in
     let below : c.args.at / 512 < pages_of self.which self.swapper.now.layout = search rules in
-    (refl, refl, looked_swaps self.which (c.args.at / 512) below c.fetch_map_page.ensures.layout c.fetch_map_page.ensures.swaps c.fetch_map_page.ensures.brings c.fetch_map_page.ensures.steps)
+    (refl, refl, looked_swaps self.which (c.args.at / 512) below c.fetch_map_page.ensures.layout c.fetch_map_page.ensures.moves.swaps c.fetch_map_page.ensures.moves.brings c.fetch_map_page.ensures.moves.steps)
 
 pub copy_out-requires-clause-filled : goal.copy_out-requires-clause-filled
 copy_out-requires-clause-filled g c =
