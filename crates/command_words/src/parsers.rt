@@ -30,12 +30,18 @@ fn frames_option<'a>(alloc: Global) -> Arg<'a>
     number_option(alloc, "frames", 24, 4096)
 }
 
+// The command of this name, with no options and no `--help`.
+fn bare_parser<'a>(alloc: Global, name: &'static str) -> Command<'a>
+    ensures { app_of result ≡ parser_with name.now [] }
+{
+    Command::new(alloc, name).disable_help_flag(true)
+}
+
 /// The options of `run`.
 pub(crate) fn run_parser<'a>(alloc: Global) -> Result<Command<'a>, AllocError>
     ensures { IfOk result (λ c. app_of c ≡ parser_with (codes "run") (frames ∷ queue ∷ [])) }
 {
-    Command::new(alloc, "run")
-        .disable_help_flag(true)
+    bare_parser(alloc, "run")
         .arg(frames_option(alloc))?
         .arg(number_option(alloc, "queue", 0, 256))
 }
@@ -44,26 +50,21 @@ pub(crate) fn run_parser<'a>(alloc: Global) -> Result<Command<'a>, AllocError>
 pub(crate) fn processes_parser<'a>(alloc: Global) -> Result<Command<'a>, AllocError>
     ensures { IfOk result (λ c. app_of c ≡ parser_with (codes "processes") (frames ∷ [])) }
 {
-    Command::new(alloc, "processes")
-        .disable_help_flag(true)
-        .arg(frames_option(alloc))
+    bare_parser(alloc, "processes").arg(frames_option(alloc))
 }
 
 /// The options of `replicate`.
 pub(crate) fn replicate_parser<'a>(alloc: Global) -> Result<Command<'a>, AllocError>
     ensures { IfOk result (λ c. app_of c ≡ parser_with (codes "replicate") (frames ∷ [])) }
 {
-    Command::new(alloc, "replicate")
-        .disable_help_flag(true)
-        .arg(frames_option(alloc))
+    bare_parser(alloc, "replicate").arg(frames_option(alloc))
 }
 
 /// The options of `format`.
 pub(crate) fn format_parser<'a>(alloc: Global) -> Result<Command<'a>, AllocError>
     ensures { IfOk result (λ c. app_of c ≡ parser_with (codes "format") (serial ∷ counter ∷ [])) }
 {
-    Command::new(alloc, "format")
-        .disable_help_flag(true)
+    bare_parser(alloc, "format")
         .arg(number_option(alloc, "serial", 1, 4_294_967_295))?
         .arg(number_option(alloc, "counter", 1, 4_294_967_295))
 }
@@ -72,25 +73,30 @@ pub(crate) fn format_parser<'a>(alloc: Global) -> Result<Command<'a>, AllocError
 pub(crate) fn scavenge_parser<'a>(alloc: Global) -> Command<'a>
     ensures { app_of result ≡ parser_with (codes "scavenge") [] }
 {
-    Command::new(alloc, "scavenge").disable_help_flag(true)
+    bare_parser(alloc, "scavenge")
 }
 
 /// The options of `convert`: none.
 pub(crate) fn convert_parser<'a>(alloc: Global) -> Command<'a>
     ensures { app_of result ≡ parser_with (codes "convert") [] }
 {
-    Command::new(alloc, "convert").disable_help_flag(true)
+    bare_parser(alloc, "convert")
 }
 
 /// The options of `trial`.
 pub(crate) fn trial_parser<'a>(alloc: Global) -> Result<Command<'a>, AllocError>
     ensures { IfOk result (λ c. app_of c ≡ parser_with (codes "trial") (seed ∷ calls ∷ frames ∷ [])) }
 {
-    Command::new(alloc, "trial")
-        .disable_help_flag(true)
+    drawn_parser(alloc)?.arg(frames_option(alloc))
+}
+
+// The options of `trial` but for the frames.
+fn drawn_parser<'a>(alloc: Global) -> Result<Command<'a>, AllocError>
+    ensures { IfOk result (λ c. app_of c ≡ parser_with (codes "trial") (seed ∷ calls ∷ [])) }
+{
+    bare_parser(alloc, "trial")
         .arg(number_option(alloc, "seed", 0, 4_294_967_295))?
-        .arg(number_option(alloc, "calls", 0, 1_000_000))?
-        .arg(frames_option(alloc))
+        .arg(number_option(alloc, "calls", 0, 1_000_000))
 }
 
 /// What `clap` finds in the words.

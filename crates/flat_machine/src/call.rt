@@ -2,7 +2,8 @@
 
 use crate::Piece;
 use labelled_disk::FileId;
-use thiserror::Error;
+use std::error::Error;
+use std::fmt::{self, Display, Formatter, Write};
 
 /// A call of a client. Spaces are named by their handles; a page without a file is one of the
 /// virtual memory.
@@ -141,54 +142,84 @@ pub enum Reply {
     Refused(Refusal),
 }
 
-/// Why a call is refused. The texts are those of the replies.
-#[derive(Clone, Copy, Debug, PartialEq, Eq, Error)]
+/// Why a call is refused. It is written as in a reply.
+#[derive(Clone, Copy, Debug, PartialEq, Eq)]
 pub enum Refusal {
     /// The line is no call.
-    #[error("syntax")]
     Syntax,
     /// There is no such space.
-    #[error("space")]
     Space,
     /// There is no such file.
-    #[error("file")]
     File,
-    #[error("size")]
     Size,
     /// The volume has no room for so many pages.
-    #[error("full")]
     Full,
     /// There are as many spaces as there may be.
-    #[error("spaces")]
     Spaces,
     /// No gap is long enough, or the pages are taken.
-    #[error("gap")]
     Gap,
-    #[error("range")]
     Range,
-    #[error("children")]
     Children,
     /// This space is mapped.
-    #[error("mapped {0}")]
     Mapped(u32),
-    #[error("window")]
     Window,
-    #[error("immutable")]
     Immutable,
-    #[error("notmapped")]
     NotMapped,
     /// No space shows anything at this page.
-    #[error("nomap {0}")]
     NoMap(u32),
     /// The window at this page is read-only.
-    #[error("readonly {0}")]
     ReadOnly(u32),
     /// This space shows the file.
-    #[error("filemapped {0}")]
     FileMapped(u32),
-    #[error("root")]
     Root,
     /// All identifiers of the volume are given out.
-    #[error("ids")]
     Ids,
 }
+
+impl Refusal {
+    fn word(self) -> &'static str {
+        match self {
+            Refusal::Syntax => "syntax",
+            Refusal::Space => "space",
+            Refusal::File => "file",
+            Refusal::Size => "size",
+            Refusal::Full => "full",
+            Refusal::Spaces => "spaces",
+            Refusal::Gap => "gap",
+            Refusal::Range => "range",
+            Refusal::Children => "children",
+            Refusal::Mapped(_) => "mapped",
+            Refusal::Window => "window",
+            Refusal::Immutable => "immutable",
+            Refusal::NotMapped => "notmapped",
+            Refusal::NoMap(_) => "nomap",
+            Refusal::ReadOnly(_) => "readonly",
+            Refusal::FileMapped(_) => "filemapped",
+            Refusal::Root => "root",
+            Refusal::Ids => "ids",
+        }
+    }
+
+    // The space or the page that is named after the word.
+    fn named(self) -> Option<u32> {
+        match self {
+            Refusal::Mapped(n)
+            | Refusal::NoMap(n)
+            | Refusal::ReadOnly(n)
+            | Refusal::FileMapped(n) => Some(n),
+            _ => None,
+        }
+    }
+}
+
+impl Display for Refusal {
+    fn fmt<W: Write>(&self, f: &mut Formatter<W>) -> fmt::Result {
+        f.write_str(self.word())?;
+        match self.named() {
+            Some(n) => write!(f, " {n}"),
+            None => Ok(()),
+        }
+    }
+}
+
+impl Error for Refusal {}

@@ -1,17 +1,15 @@
 -- What sector states say of a disk, and what is so of a sector that stays.
-use Rattle.std.proofs.Common.{◌≡◌, ◌⊎◌, inl, inr, ℕ, ◌+◌, ◌-◌, ◌≤◌, Bool, true, false, ◌&&◌, ◌||◌, cond, List, length, Option, Some, None, refl, sym, ◌∙◌, ap, arith, eqb}
+use Rattle.std.proofs.Common.{◌≡◌, ◌⊎◌, inl, inr, ◌+◌, ◌-◌, Bool, true, false, ◌&&◌, ◌||◌, length, Option, Some, None, refl, sym, ◌∙◌, ap, arith, eqb}
 use Rattle.std.specs.Prelude.{slice_get, option_map, nat_lt}
 use Rattle.std.proofs.lemmas.Option.{same_Some, none-some}
 use Rattle.std.proofs.lemmas.Bool.{and_parts, eqb-true, ltb-true}
 use Rattle.labelled_disk.specs.Label.{is_file, is_free, is_permanent, leader_page}
 use Rattle.labelled_disk.specs.Layout.{data_sectors, first_data}
-use Rattle.labelled_disk.specs.File.{File, size}
+use Rattle.labelled_disk.specs.File.{size}
 use Rattle.labelled_disk.specs.FilesOn.{leads, leads_file, is_page, is_of, disk_file}
 use Rattle.labelled_disk.specs.Lowest.{is_first, is_needed}
 use Rattle.labelled_disk.specs.Sectors.{Sector}
-use Rattle.labelled_disk.specs.WriteLaws.{HasData}
 use Rattle.label_laws.specs.Counts.{needs_place, is_of_some_file}
-use Rattle.label_survey.specs.declared.sector_state.SectorState.{SectorState}
 use Rattle.label_survey.specs.Laws.{FreedAreUnneeded, KeptAreNeeded, NeededAreFiles}
 use Rattle.label_survey.specs.SectorStates.{sector_state}
 use Rattle.label_survey.specs.Survey.{is_kept}

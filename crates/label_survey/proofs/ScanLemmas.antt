@@ -1,7 +1,7 @@
 -- A scan of the last sectors of a disk, one by one.
-use Rattle.std.proofs.Common.{◌≡◌, ℕ, zero, suc, ◌+◌, ◌-◌, ◌≤◌, List, [], ◌∷◌, ◌++◌, length, map, take, drop, Some, refl, sym, ◌∙◌, ap, arith}
+use Rattle.std.proofs.Common.{◌≡◌, ℕ, zero, suc, ◌+◌, ◌-◌, ◌<◌, ◌≤◌, add-one, get_or, List, [], ◌∷◌, ◌++◌, length, map, take, drop, Some, refl, sym, ◌∙◌, ap, arith}
 use Rattle.std.specs.Prelude.{slice_get, min, ◌/◌, ◌%◌}
-use Rattle.std.proofs.lemmas.Option.{same_Some, none-some}
+use Rattle.std.proofs.lemmas.Option.{same_Some, none-some, slice_get-get_or}
 use Rattle.std.proofs.lemmas.List.{take_all}
 use Rattle.labelled_disk.specs.declared.layout.Layout.{Layout}
 use Rattle.labelled_disk.specs.Layout.{IsCount, layout_of, first_data}
@@ -17,6 +17,12 @@ module _ {X Y : Type 0} (f : X → Y) where
   one_more [] k x here = absurd (none-some x here)
   one_more (y ∷ ys) zero x here = ap (λ (z : X). f z ∷ []) (same_Some y x here)
   one_more (y ∷ ys) (suc k) x here = ap (λ (l : List Y). f y ∷ l) (one_more ys k x here)
+
+  -- what each element becomes, pushed one by one
+  pub pushed_more : (xs : List X) (i : ℕ) (d : X) (ys : List Y) (y : Y) → i < length xs → ys ≡ map f (take i xs) → y ≡ f (get_or xs i d)
+      → ys ++ y ∷ [] ≡ map f (take (i + 1) xs)
+  pushed_more xs i d ys y inside so_far is =
+      rw (so_far, is, add-one) (sym (one_more xs i (get_or xs i d) (slice_get-get_or xs i d inside)))
 
   -- one element more of those from n on
   pub scanned_more : (xs : List X) (n i : ℕ) (x : X) → n ≤ i → slice_get xs i ≡ Some x → map f (take (i + 1 - n) (drop n xs)) ≡ map f (take (i - n) (drop n xs)) ++ f x ∷ []

@@ -1,5 +1,5 @@
 -- Loops that write each element of a list.
-use Rattle.std.proofs.Common.{◌≡◌, ℕ, zero, suc, ◌+◌, ◌<◌, List, [], ◌∷◌, ◌++◌, map, length, take, drop, set, get_or, refl, ap, arith, add-one}
+use Rattle.std.proofs.Common.{◌≡◌, ℕ, zero, suc, ◌+◌, ◌<◌, List, [], ◌∷◌, ◌++◌, map, length, take, drop, set, get_or, refl, sym, ◌∙◌, ap, arith, add-one}
 use Rattle.std.specs.List.{enumerate_from}
 use Rattle.std.proofs.lemmas.List.{get_or_default}
 use Rattle.std.proofs.lemmas.List.Edits.{map_over_more}
@@ -36,3 +36,14 @@ pub each_place_step : {X : Type 0} (f : ℕ → X → X) (xs ys : List X) (i : �
 each_place_step f xs ys i d h e =
     let z : 0 + i ≡ i = omega arith in
     rw (e, still_from f 0 i xs d h, add-one) (rw z at (over_from f 0 i xs d h))
+
+mapped_more : {X : Type 0} (f : X → X) (xs : List X) (i : ℕ) (d : X) → i < length xs → map f (take (suc i) xs) ≡ map f (take i xs) ++ f (get_or xs i d) ∷ []
+mapped_more f [] i d h = absurd (omega arith)
+mapped_more f (x ∷ xs) zero d h = refl
+mapped_more f (x ∷ xs) (suc i) d h = ap (λ l. f x ∷ l) (mapped_more f xs i d (omega arith))
+
+-- a loop that pushes f of each element
+pub pushed_more : {X : Type 0} (f : X → X) (xs ys : List X) (i : ℕ) (x y : X) → i < length xs → x ≡ get_or xs i x
+    → ys ≡ map f (take i xs) → y ≡ f x → ys ++ y ∷ [] ≡ map f (take (i + 1) xs)
+pushed_more {X} f xs ys i x y inside at so_far told =
+    rw (so_far, told, add-one) (ap (λ (z : X). map f (take i xs) ++ f z ∷ []) at ∙ sym (mapped_more f xs i x inside))

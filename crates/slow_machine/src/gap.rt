@@ -1,7 +1,8 @@
 //! Where a new space may stand, and the handle that it gets.
 
-ghost use Rattle.std.specs.Prelude.{◌≡◌, ◌≤◌, length, map, false};
+ghost use Rattle.std.specs.Prelude.{◌≡◌, ◌≤◌, length, map, false, nat_lt, if◌then◌else◌};
 ghost use Rattle.std.specs.List.{AllByRecursion};
+ghost use Rattle.std.specs.Option.{option_map_or};
 ghost use Rattle.flat_machine.specs.Machine.{IsAscending};
 ghost use Rattle.flat_machine.specs.Space as of_space;
 ghost use Rattle.flat_machine.specs.Refusal as of_call;
@@ -46,12 +47,18 @@ fn with_gap_after(
     ensures { result ≡ gap_with spaces.now parent.now pages lowest s.now }
 {
     let after = s.end() as u32;
-    if !is_child_of(parent.handle, s) || !fits(spaces, parent, pages, after) {
-        return lowest;
+    if is_child_of(parent.handle, s) && fits(spaces, parent, pages, after) {
+        return Some(lower(lowest, after));
     }
+    lowest
+}
+
+fn lower(lowest: Option<u32>, after: u32) -> u32
+    ensures { result ≡ option_map_or (λ k. if nat_lt after k then after else k) lowest after }
+{
     match lowest {
-        Some(gap) if gap <= after => Some(gap),
-        _ => Some(after),
+        Some(gap) => { if after < gap { after } else { gap } }
+        None => after,
     }
 }
 

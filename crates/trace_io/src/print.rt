@@ -1,12 +1,46 @@
 //! The lines of calls, for clients that write traces.
-ghost use Rattle.std.specs.Prelude.{◌≡◌, ◌≤◌, [], length, OnOk, OnErr};
+ghost use Rattle.std.specs.Prelude.{◌≡◌, ◌≤◌, [], get_or, length, OnOk, OnErr};
 ghost use Rattle.std.specs.Io.KnownBytes.{Appends};
 ghost use Rattle.trace_io.specs.Stream.{HasCause, AppendsPrefix};
-ghost use Rattle.trace_io.specs.CallText.{call_text, call_line};
+ghost use Rattle.trace_io.specs.CallText.{call_text, call_words, call_line};
 
 use crate::text::Text;
 use crate::{Sink, SinkFault};
 use flat_machine::Call;
+
+// The first word of a call.
+fn word(call: &Call) -> &'static [u8]
+    ensures word { result.now ≡ get_or (call_words call.now) 0 [] }
+    ensures short { length result.now ≤ 10 }
+{
+    match call {
+        Call::Create { .. } => b"create",
+        Call::Delete { .. } => b"delete",
+        Call::Attributes { .. } => b"attr",
+        Call::SetSize { .. } => b"setsize",
+        Call::MakePermanent { .. } => b"permanent",
+        Call::MakeImmutable { .. } => b"immutable",
+        Call::Next { .. } => b"next",
+        Call::Volume => b"volume",
+        Call::MakeSpace { first: None, .. } => b"space",
+        Call::MakeSpace { first: Some(_), .. } => b"space",
+        Call::RemoveSpace { .. } => b"remove",
+        Call::Place { .. } => b"where",
+        Call::Units { .. } => b"units",
+        Call::Map { .. } => b"map",
+        Call::MapAnonymous { .. } => b"mapdata",
+        Call::Unmap { .. } => b"unmap",
+        Call::Protect { .. } => b"protect",
+        Call::Load { .. } => b"load",
+        Call::Store { .. } => b"store",
+        Call::Activate { .. } => b"activate",
+        Call::Deactivate { .. } => b"deactivate",
+        Call::Kill { .. } => b"kill",
+        Call::ForceOut { .. } => b"force",
+        Call::Close => b"close",
+        Call::Halt => b"halt",
+    }
+}
 
 // Puts the text of a call into a line that has no byte yet.
 #[tactic(auto, unfolding(crate::specs::CallText::call_text))]
@@ -15,44 +49,38 @@ fn put_call(line: &mut Text, call: &Call)
     ensures text { line.new ≡ call_text call.now }
     ensures short { length line.new ≤ 191 }
 {
+    line.put(word(call));
     match call {
+        Call::Delete { id }
+        | Call::Attributes { id }
+        | Call::MakePermanent { id }
+        | Call::MakeImmutable { id }
+        | Call::Next { id } => line.then_id(*id),
+        Call::SetSize { id, pages } => {
+            line.then_id(*id);
+            line.then_number(*pages);
+        }
+        Call::RemoveSpace { space: n }
+        | Call::Place { page: n }
+        | Call::MapAnonymous { space: n }
+        | Call::Unmap { space: n }
+        | Call::Activate { space: n }
+        | Call::Deactivate { space: n }
+        | Call::Kill { space: n }
+        | Call::ForceOut { space: n } => line.then_number(*n),
         Call::Create { pages, kind } => {
-            line.put(b"create");
             line.then_number(*pages);
             line.then_number(u32::from(*kind));
         }
-        Call::Delete { id } => {
-            line.put(b"delete");
-            line.then_id(*id);
-        }
-        Call::Attributes { id } => {
-            line.put(b"attr");
-            line.then_id(*id);
-        }
-        Call::SetSize { id, pages } => {
-            line.put(b"setsize");
-            line.then_id(*id);
+        Call::Units { space, pages } => {
+            line.then_number(*space);
             line.then_number(*pages);
         }
-        Call::MakePermanent { id } => {
-            line.put(b"permanent");
-            line.then_id(*id);
-        }
-        Call::MakeImmutable { id } => {
-            line.put(b"immutable");
-            line.then_id(*id);
-        }
-        Call::Next { id } => {
-            line.put(b"next");
-            line.then_id(*id);
-        }
-        Call::Volume => line.put(b"volume"),
         Call::MakeSpace {
             parent,
             pages,
             first,
         } => {
-            line.put(b"space");
             line.then_number(*parent);
             line.then_number(*pages);
             match first {
@@ -60,73 +88,31 @@ fn put_call(line: &mut Text, call: &Call)
                 None => {}
             }
         }
-        Call::RemoveSpace { space } => {
-            line.put(b"remove");
-            line.then_number(*space);
-        }
-        Call::Place { page } => {
-            line.put(b"where");
-            line.then_number(*page);
-        }
-        Call::Units { space, pages } => {
-            line.put(b"units");
-            line.then_number(*space);
-            line.then_number(*pages);
-        }
         Call::Map {
             space,
             id,
             page,
             writable,
         } => {
-            line.put(b"map");
             line.then_number(*space);
             line.then_id(*id);
             line.then_number(*page);
             line.then_mode(*writable);
         }
-        Call::MapAnonymous { space } => {
-            line.put(b"mapdata");
-            line.then_number(*space);
-        }
-        Call::Unmap { space } => {
-            line.put(b"unmap");
-            line.then_number(*space);
-        }
         Call::Protect { space, writable } => {
-            line.put(b"protect");
             line.then_number(*space);
             line.then_mode(*writable);
         }
         Call::Load { address, count } => {
-            line.put(b"load");
             line.then_number(*address);
             line.then_number(u32::from(*count));
         }
         Call::Store { address, bytes } => {
-            line.put(b"store");
             line.then_number(*address);
             line.put(b" ");
             line.put_hex(bytes.as_slice());
         }
-        Call::Activate { space } => {
-            line.put(b"activate");
-            line.then_number(*space);
-        }
-        Call::Deactivate { space } => {
-            line.put(b"deactivate");
-            line.then_number(*space);
-        }
-        Call::Kill { space } => {
-            line.put(b"kill");
-            line.then_number(*space);
-        }
-        Call::ForceOut { space } => {
-            line.put(b"force");
-            line.then_number(*space);
-        }
-        Call::Close => line.put(b"close"),
-        Call::Halt => line.put(b"halt"),
+        Call::Volume | Call::Close | Call::Halt => {}
     }
 }
 

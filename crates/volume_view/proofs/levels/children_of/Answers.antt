@@ -1,7 +1,9 @@
-use Rattle.std.proofs.Common.{◌∙◌, ℕ, List, refl, sym, subst, arith}
+use Rattle.std.proofs.Common.{◌≡◌, ◌∙◌, ℕ, List, length, refl, sym, ap, subst, arith}
+use Rattle.std.specs.List.{flat_map}
+use Rattle.std.proofs.lemmas.List.{length-map, take_all}
 use Rattle.flat_mem.specs.Vec.{vec_mem_bytes}
-use Rattle.volume_view.specs.Level.{item_of}
-use Rattle.volume_view.specs.Walk.{IsInnerPage}
+use Rattle.volume_view.specs.Level.{item_of, items_of}
+use Rattle.volume_view.specs.Walk.{children_in, IsInnerPage}
 use Rattle.volume_view.proofs.LevelLemmas.{child_of, item_here, each_more, children_of_more, few_of_level, inner_all}
 use Rattle.volume_view.proofs.levels.children_of.Goals as goal
 
@@ -40,3 +42,9 @@ pub returns-clause-inner : goal.returns-clause-inner
 returns-clause-inner g c =
     let so_far = c.loop-j.invariant in
     inner_all (vec_mem_bytes c.args.map.now) c.args.pages c.args.top c.args.least c.args.parents.now c.loop-j.j c.loop-j.children.items (omega (arith, c.loop-j-test.false, c.loop-j.auto.j-end)) so_far.each so_far.children so_far.few
+
+pub returns-clause-children : goal.returns-clause-children
+returns-clause-children g c =
+    let long : length (items_of c.args.parents.now) ≡ length c.args.parents.now = length-map c.args.parents.now item_of in
+    c.loop-j.invariant.children
+    ∙ ap (flat_map (children_in (vec_mem_bytes c.args.map.now))) (take_all c.loop-j.j (items_of c.args.parents.now) (omega (arith, long, c.loop-j-test.false, c.loop-j.auto.j-end)))
