@@ -3,8 +3,6 @@
 
 mod copy;
 mod settled;
-#[cfg(test)]
-mod tests;
 mod through;
 
 pub use copy::copy_page;

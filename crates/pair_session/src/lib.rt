@@ -7,8 +7,6 @@ mod ending;
 mod laws;
 mod outcome;
 mod replication;
-#[cfg(test)]
-mod tests;
 mod turn;
 
 pub use laws::answers_are_transcripts;

@@ -1,7 +1,7 @@
 //! Documents are got out of the volume.
 
 use crate::buffer::buffer_for;
-use crate::host::{Beside, NoFile, old_file};
+use crate::host::{Beside, NoFile, no_file, old_file};
 use crate::meter::Meter;
 use crate::status::Status;
 use crate::volume::{Volume, document_line};
@@ -80,11 +80,6 @@ pub(crate) fn get_to_output(rt: &HostRuntime, volume: &mut Volume, getting: Gett
     }
 }
 
-fn no_file(rt: &HostRuntime, path: &str, why: NoFile) -> Status {
-    let _ = eprintln!(rt; "pilot_files: {path:?}: {why}");
-    Status::StreamFault
-}
-
 /// Whether there may be a new file of that path.
 fn is_free(rt: &HostRuntime, path: &str, force: bool) -> Result<(), NoFile> {
     match exists(rt, path) {
@@ -94,23 +89,14 @@ fn is_free(rt: &HostRuntime, path: &str, force: bool) -> Result<(), NoFile> {
     }
 }
 
-/// Writes a document into a new file.
-pub(crate) fn get_to_file(
+/// Writes a document into a new file beside the one of the path, which then gets that name.
+fn get_beside(
     rt: &HostRuntime,
     volume: &mut Volume,
+    beside: Beside<'_>,
     path: &str,
     getting: Getting,
 ) -> Status {
-    if let Err(why) = is_free(rt, path, getting.force) {
-        return no_file(rt, path, why);
-    }
-    let Ok(part) = format!(in rt.alloc(); "{path}.part") else {
-        return no_file(rt, path, NoFile::NoMemory);
-    };
-    let beside = match Beside::new(rt, path, part.as_str()) {
-        Ok(beside) => beside,
-        Err(why) => return no_file(rt, part.as_str(), why),
-    };
     let mut sink = match beside.writer() {
         Ok(file) => WriterSink::over(file),
         Err(why) => {
@@ -127,5 +113,24 @@ pub(crate) fn get_to_file(
             beside.drop_file(rt);
             not_got(rt, volume, getting.id, fault, sink.trouble())
         }
+    }
+}
+
+/// Writes a document into a new file.
+pub(crate) fn get_to_file(
+    rt: &HostRuntime,
+    volume: &mut Volume,
+    path: &str,
+    getting: Getting,
+) -> Status {
+    if let Err(why) = is_free(rt, path, getting.force) {
+        return no_file(rt, path, why);
+    }
+    let Ok(part) = format!(in rt.alloc(); "{path}.part") else {
+        return no_file(rt, path, NoFile::NoMemory);
+    };
+    match Beside::new(rt, path, part.as_str()) {
+        Ok(beside) => get_beside(rt, volume, beside, path, getting),
+        Err(why) => no_file(rt, part.as_str(), why),
     }
 }

@@ -1,5 +1,6 @@
 //! Files of the host: documents are read from them, and written to new ones.
 
+use crate::status::Status;
 use std::fs::{File, OpenOptions, TryLockError, hard_link, remove_file, rename};
 use std::io;
 use thiserror::Error;
@@ -26,6 +27,23 @@ impl NoFile {
         match why.kind() {
             io::ErrorKind::AlreadyExists => NoFile::Taken(why),
             _ => NoFile::System(why),
+        }
+    }
+}
+
+/// A line on standard error that says why a file can't be had.
+pub(crate) fn no_file(rt: &HostRuntime, path: &str, why: NoFile) -> Status {
+    let _ = eprintln!(rt; "pilot_files: {path:?}: {why}");
+    Status::StreamFault
+}
+
+/// How the program ends after it has written to standard output; where that failed a line on standard error says so.
+pub(crate) fn written(rt: &HostRuntime, done: io::Result<()>) -> Status {
+    match done {
+        Ok(()) => Status::Done,
+        Err(why) => {
+            let _ = eprintln!(rt; "pilot_files: standard output: {why}");
+            Status::StreamFault
         }
     }
 }

@@ -1,5 +1,6 @@
 //! The files of the volume, a line each.
 
+use crate::host::written;
 use crate::status::Status;
 use crate::volume::{Volume, fault_line};
 use documents::{Fault, Listed, next_listed};
@@ -64,13 +65,7 @@ fn reveal(rt: &HostRuntime, file: &Listed, json: bool) -> Status {
         let _ = eprintln!(rt; "pilot_files: there is no memory left");
         return Status::NoMemory;
     };
-    match print!(rt; "{line}") {
-        Ok(()) => Status::Done,
-        Err(why) => {
-            let _ = eprintln!(rt; "pilot_files: standard output: {why}");
-            Status::StreamFault
-        }
-    }
+    written(rt, print!(rt; "{line}"))
 }
 
 /// Writes a line for each file of the volume.

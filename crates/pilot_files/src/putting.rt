@@ -1,7 +1,7 @@
 //! Documents are put into the volume.
 
 use crate::buffer::{WINDOW, buffer_for};
-use crate::host::{last_part, old_file};
+use crate::host::{last_part, no_file, old_file, written};
 use crate::meter::Meter;
 use crate::status::Status;
 use crate::volume::{Volume, document_line, fault_line, is_too_long};
@@ -88,16 +88,28 @@ fn put_source<R: Read>(
     let answer = placed(volume, buffer, source, name, &mut meter, placing.instead);
     meter.finish();
     match answer {
-        Ok(id) => match println!(rt; "{id:016x}") {
-            Ok(()) => Status::Done,
-            Err(why) => {
-                let _ = eprintln!(rt; "pilot_files: standard output: {why}");
-                Status::StreamFault
-            }
-        },
+        Ok(id) => written(rt, println!(rt; "{id:016x}")),
         Err(fault) => {
             let trouble = source.trouble();
             not_put(rt, volume, path, placing.instead, fault, trouble)
+        }
+    }
+}
+
+/// Puts a file, unless the volume has no room for it.
+fn put_file(
+    rt: &HostRuntime,
+    volume: &mut Volume,
+    file: File,
+    path: &str,
+    placing: Placing<'_>,
+) -> Status {
+    match length_of(&file) {
+        Some(bytes) if is_too_long(rt, volume, path, bytes) => Status::Refused,
+        bytes => {
+            let placing = Placing { bytes, ..placing };
+            let mut source = ReaderSource::over(file);
+            put_source(rt, volume, &mut source, path, placing)
         }
     }
 }
@@ -121,19 +133,8 @@ pub(crate) fn put_path(
         let mut source = ReaderSource::over(rt.reader());
         return put_source(rt, volume, &mut source, path, placing);
     }
-    let file = match old_file(rt, path) {
-        Ok(file) => file,
-        Err(why) => {
-            let _ = eprintln!(rt; "pilot_files: {path:?}: {why}");
-            return Status::StreamFault;
-        }
-    };
-    match length_of(&file) {
-        Some(bytes) if is_too_long(rt, volume, path, bytes) => Status::Refused,
-        bytes => {
-            let placing = Placing { bytes, ..placing };
-            let mut source = ReaderSource::over(file);
-            put_source(rt, volume, &mut source, path, placing)
-        }
+    match old_file(rt, path) {
+        Ok(file) => put_file(rt, volume, file, path, placing),
+        Err(why) => no_file(rt, path, why),
     }
 }

@@ -37,6 +37,14 @@ fn remove_all(rt: &HostRuntime, volume: &mut Volume, ids: &[FileId]) -> Status {
     Status::Done
 }
 
+/// Gets a document into the file of a path, or to standard output.
+fn get_to(rt: &HostRuntime, volume: &mut Volume, file: Option<&str>, getting: Getting) -> Status {
+    match file {
+        Some(path) => get_to_file(rt, volume, path, getting),
+        None => get_to_output(rt, volume, getting),
+    }
+}
+
 /// Carries out a task.
 pub(crate) fn carry_out(rt: &HostRuntime, volume: &mut Volume, request: &Request<'_>) -> Status {
     let quiet = request.options.quiet;
@@ -72,10 +80,7 @@ pub(crate) fn carry_out(rt: &HostRuntime, volume: &mut Volume, request: &Request
                 quiet,
                 window: got_at_once(request.options.frames),
             };
-            match file {
-                Some(path) => get_to_file(rt, volume, path, getting),
-                None => get_to_output(rt, volume, getting),
-            }
+            get_to(rt, volume, *file, getting)
         }
         Task::List { json } => list(rt, volume, *json),
         Task::Remove { ids } => remove_all(rt, volume, ids.as_slice()),

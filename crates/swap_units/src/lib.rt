@@ -3,8 +3,6 @@
 
 mod interval;
 mod mode;
-#[cfg(test)]
-mod tests;
 
 pub use flat_machine::ROOT_PAGES;
 pub use interval::{Interval, unit_of};

@@ -1,6 +1,5 @@
 //! A disk that fails at one transfer, each in turn: what the volume has of a document after a restoration.
-use crate::bytes::drawn;
-use crate::numbers::numbers_of;
+use crate::bytes::{drawn, numbers_of};
 use crate::volume::Volume;
 use anyhow::{Result, bail};
 use documents::{Silent, get, next_listed, put};
@@ -59,7 +58,7 @@ fn put_at(alloc: Global, transfer: u64, bytes: &[u8], frames: u32) -> Result<End
 /// frames. The one number is that of the transfers of the `put`, the other of those of the end.
 pub(crate) fn each(alloc: Global, words: &str) -> Result<String> {
     let [length, frames]: [u32; 2] = numbers_of(words)?;
-    let bytes = drawn(alloc, length as usize)?;
+    let bytes = drawn(alloc, length)?;
     let (mut absent, mut whole) = (0u32, 0u32);
     for transfer in 1..10_000 {
         match put_at(alloc, transfer, bytes.as_slice(), frames)? {

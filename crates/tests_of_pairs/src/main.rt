@@ -6,11 +6,9 @@ mod damage;
 mod drawn;
 mod draws;
 mod labels;
-mod memory;
 mod plain;
 mod rows;
 mod stops;
-mod streams;
 mod volume;
 
 use anyhow::{Context, Result, bail};
@@ -24,11 +22,8 @@ fn answer(alloc: Global, command: &str) -> Result<String> {
         "pair" => rows::replied(alloc, rest),
         "first" => stops::each(alloc, rest, true),
         "second" => stops::each(alloc, rest, false),
-        "source" => streams::each(alloc, rest, true),
-        "sink" => streams::each(alloc, rest, false),
         "damaged" => damage::each(alloc, rest),
         "drawn" => drawn::all(alloc, rest),
-        "memory" => memory::each(alloc, rest),
         _ => bail!("no row"),
     }
 }

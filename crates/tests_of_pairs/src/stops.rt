@@ -31,8 +31,8 @@ fn is_fault(end: End, is_first: bool) -> bool {
     }
 }
 
-/// Whether the volume of a disk has its clean flag cleared.
-pub(crate) fn is_open(disk: &mut Volume) -> bool {
+// Whether the volume of a disk has its clean flag cleared.
+fn is_open(disk: &mut Volume) -> bool {
     read_root(disk, true) == Err(RootFault::Unclean)
 }
 

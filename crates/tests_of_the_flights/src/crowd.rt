@@ -20,12 +20,12 @@ struct Waiting {
 
 /// A plain machine, how many flights have begun, and who waits, the earliest first; and what is known of frames.
 #[derive(Drop)]
-pub(crate) struct PlainCrowd<'r> {
+pub(crate) struct PlainCrowd {
     alloc: Global,
     machine: SlowMachine<Global>,
     pub(crate) begun: u64,
     waiting: Vec<Waiting>,
-    frames: Frames<'r>,
+    frames: Frames,
 }
 
 // A reply as it is written.
@@ -35,13 +35,9 @@ fn text(alloc: Global, reply: &Reply) -> Result<Vec<u8>> {
     Ok(Vec::from_slice(alloc, sink.taken())?)
 }
 
-impl<'r> PlainCrowd<'r> {
+impl PlainCrowd {
     /// Nobody waits.
-    pub(crate) fn new(
-        alloc: Global,
-        machine: SlowMachine<Global>,
-        frames: Frames<'r>,
-    ) -> PlainCrowd<'r> {
+    pub(crate) fn new(alloc: Global, machine: SlowMachine<Global>, frames: Frames) -> PlainCrowd {
         PlainCrowd {
             alloc,
             machine,
@@ -82,7 +78,6 @@ impl<'r> PlainCrowd<'r> {
         let may = self.may_wait(&waiting.call) && (in_the_air || begins);
         if begins {
             self.begun = waiting.flight;
-            self.frames.begin()?;
         }
         self.waiting.push(waiting)?;
         Ok(may)
@@ -120,13 +115,6 @@ impl<'r> PlainCrowd<'r> {
         Ok(landing)
     }
 
-    // Whether the first of those who wait for a flight may be answered so. Unless it is refused, a page of it was read.
-    fn owner_gets(&mut self, flight: u64, owner: &Waiting, answer: &Answer) -> Result<bool> {
-        let is_refused = matches!(answer.reply, Reply::Refused(_));
-        let may = answer.client == owner.client && self.replies(&owner.call, &answer.reply)?;
-        Ok(may && (is_refused || self.frames.has_read(flight)))
-    }
-
     // Whether a flight may come to these answers. The others are asked for their flights.
     fn lands<S: Stepped>(
         &mut self,
@@ -142,7 +130,7 @@ impl<'r> PlainCrowd<'r> {
         let Some((first, mut answers)) = answers.split_first() else {
             return Ok(false);
         };
-        let mut may = self.owner_gets(flight, &owner, first)?;
+        let mut may = first.client == owner.client && self.replies(&owner.call, &first.reply)?;
         for client in 1..17 {
             let Some(place) = landing.iter().position(|w| w.client == client) else {
                 continue;

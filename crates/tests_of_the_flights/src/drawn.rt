@@ -3,9 +3,9 @@ ghost use Rattle.std.specs.Prelude.{OnOk};
 
 use crate::crowd::PlainCrowd;
 use crate::frames::Frames;
-use crate::happen::{Event, happen, may_happen};
+use crate::happen::{Event, happen, happen_in_a_row, may_happen};
 use crate::rows::events_of;
-use anyhow::Result;
+use anyhow::{Result, bail};
 use flight_core::{Flights, Stepped};
 use slow_machine::SlowMachine;
 use std::alloc::Global;
@@ -26,12 +26,30 @@ on 1 map 3 0000000700000003 0 rw
 on 1 map 4 0000000700000004 0 rw
 ";
 
+// Carries out the first events in a row, and says how many come to what they may not.
+fn begin<S: Stepped>(alloc: Global, flights: &mut Flights<S>, plain: &mut PlainCrowd) -> Result<u32>
+    requires runs { S.runs flights.old.stepped }
+    ensures goes_on { OnOk result (S.runs flights.new.stepped) }
+{
+    let events = events_of(alloc, BEGIN)?;
+    let mut outcomes = Vec::new(alloc);
+    if flights.begun() > 0 || events.len() > 10_000 {
+        return Ok(1);
+    }
+    if happen_in_a_row(flights, &events, &mut outcomes).is_err() {
+        bail!("the first events halt");
+    }
+    let mut wrong = 0u32;
+    for (event, outcome) in events.into_iter().zip(outcomes) {
+        if !plain.may_come(event, &outcome, flights)? {
+            wrong = wrong.saturating_add(1);
+        }
+    }
+    Ok(wrong)
+}
+
 // Whether an event comes to what it may.
-fn turn<S: Stepped>(
-    flights: &mut Flights<S>,
-    plain: &mut PlainCrowd<'_>,
-    event: Event,
-) -> Result<bool>
+fn turn<S: Stepped>(flights: &mut Flights<S>, plain: &mut PlainCrowd, event: Event) -> Result<bool>
     requires runs { S.runs flights.old.stepped }
     ensures goes_on { OnOk result (S.runs flights.new.stepped) }
 {
@@ -50,7 +68,7 @@ fn next(seed: u32) -> u32 {
 
 // The event that a number gives: one of four is that a drawn client's flight is done, or where it waits
 // for none, the one that began last.
-fn event_by(number: u32, maker: &mut TraceMaker, plain: &PlainCrowd<'_>) -> Event {
+fn event_by(number: u32, maker: &mut TraceMaker, plain: &PlainCrowd) -> Event {
     let client = 1 + (number / 0x1_0000 % 16) as u8;
     if number / 0x4000_0000 == 0 {
         return Event::Done(plain.flight_of(client).unwrap_or(plain.begun));
@@ -66,7 +84,7 @@ fn event_by(number: u32, maker: &mut TraceMaker, plain: &PlainCrowd<'_>) -> Even
 pub(crate) fn report<S: Stepped + Drop>(
     alloc: Global,
     stepped: S,
-    frames: Frames<'_>,
+    frames: Frames,
     title: &str,
 ) -> Result<String>
     requires runs { S.runs stepped }
@@ -74,12 +92,7 @@ pub(crate) fn report<S: Stepped + Drop>(
     let machine = SlowMachine::new(alloc, 7, 1, 124)?;
     let mut plain = PlainCrowd::new(alloc, machine, frames);
     let mut flights = Flights::new(stepped);
-    let mut wrong = 0u32;
-    for event in events_of(alloc, BEGIN)? {
-        if !turn(&mut flights, &mut plain, event)? {
-            wrong = wrong.saturating_add(1);
-        }
-    }
+    let mut wrong = begin(alloc, &mut flights, &mut plain)?;
     let mut maker = TraceMaker::new(7);
     let mut number = 7;
     for _ in 0..20_000 {

@@ -4,14 +4,10 @@ use anyhow::Result;
 use flat_machine::{Call, Reply};
 use labelled_disk::PAGE_BYTES;
 use std::alloc::Global;
-use std::cell::Cell;
 
-/// How many reads the disk has made, where they are counted, and had made when each flight began; and pages that are in frames,
-/// where there are so many frames that a page leaves its own for a call alone.
+/// Pages that are in frames, where there are so many frames that a page leaves its own for a call alone.
 #[derive(Drop)]
-pub(crate) struct Frames<'r> {
-    reads: Option<&'r Cell<u64>>,
-    at_begin: Vec<u64>,
+pub(crate) struct Frames {
     suffice: bool,
     there: Vec<u32>,
 }
@@ -27,22 +23,10 @@ fn pages_of(call: &Call) -> Option<(u32, u32)> {
     Some((address / PAGE_BYTES as u32, last / PAGE_BYTES as u32))
 }
 
-impl<'r> Frames<'r> {
-    /// Nothing is known of them.
-    pub(crate) fn unknown(alloc: Global) -> Frames<'r> {
+impl Frames {
+    /// The frames suffice for all pages, or not.
+    pub(crate) fn new(alloc: Global, suffice: bool) -> Frames {
         Frames {
-            reads: None,
-            at_begin: Vec::new(alloc),
-            suffice: false,
-            there: Vec::new(alloc),
-        }
-    }
-
-    /// Reads are counted, and the frames suffice for all pages or not.
-    pub(crate) fn counted(alloc: Global, reads: &'r Cell<u64>, suffice: bool) -> Frames<'r> {
-        Frames {
-            reads: Some(reads),
-            at_begin: Vec::new(alloc),
             suffice,
             there: Vec::new(alloc),
         }
@@ -77,22 +61,5 @@ impl<'r> Frames<'r> {
             Some((first, last)) => !self.is_there(first) || !self.is_there(last),
             None => false,
         }
-    }
-
-    /// A flight begins.
-    pub(crate) fn begin(&mut self) -> Result<()> {
-        if let Some(reads) = self.reads {
-            self.at_begin.push(reads.get())?;
-        }
-        Ok(())
-    }
-
-    /// Whether the disk has made a read since the flight began, where reads are counted.
-    pub(crate) fn has_read(&self, flight: u64) -> bool {
-        let Some(reads) = self.reads else {
-            return true;
-        };
-        let at_begin = self.at_begin.get(flight.saturating_sub(1) as usize);
-        at_begin.is_some_and(|before| *before < reads.get())
     }
 }

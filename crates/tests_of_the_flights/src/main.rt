@@ -2,7 +2,6 @@
 #![tactic(auto)]
 
 mod answered;
-mod counted;
 mod crowd;
 mod drawn;
 mod frames;
@@ -25,7 +24,7 @@ fn drawn_reports(alloc: Global) -> Result<[String; 3]> {
         drawn::report(
             alloc,
             paged,
-            Frames::unknown(alloc),
+            Frames::new(alloc, false),
             "over the plain machine",
         )?,
         sessions::report(alloc, 24)?,

@@ -1,8 +1,9 @@
 //! A command, what it is given, and what it must write and leave.
 
 use crate::fickle::FickleDisk;
-use anyhow::{Context, Result};
-use labelled_disk::{Disk, MemoryDisk};
+use crate::sector::numbers_of;
+use anyhow::{Context, Result, bail};
+use labelled_disk::Disk;
 use linked_list_allocator::LocalHeap;
 use pilot_top::pilot;
 use std::alloc::{AllocError, Global};
@@ -10,20 +11,22 @@ use std::str::from_utf8;
 use trace_io::{MemorySink, MemorySource, Source};
 
 /// Room for 4,096 frames on each of two disks, and for a restoration of as many sectors.
-const ROOM: u64 = 4_800_000;
+const ROOM: usize = 4_800_000;
 
 /// Room for 24 frames, and for such a restoration.
-const LITTLE_ROOM: u64 = 500_000;
+const LITTLE_ROOM: usize = 500_000;
 
-/// The calls of the source and of the sink that fail, counted from 1; 0 where none does.
+/// How many bytes the memory of a command has; the calls of the source and of the sink that fail, counted from 1, and 0 where none
+/// does; and the sector whose label changes.
 #[derive(Clone, Copy)]
-pub(crate) struct Fails {
+pub(crate) struct Around {
+    room: usize,
     pub(crate) source: u64,
     pub(crate) sink: u64,
+    fickle: u32,
 }
 
-/// A command with its exit, its trace, what it writes, and what it leaves of the trace; the bytes that its memory has; and the sector
-/// whose label changes, where one does.
+/// A command with its exit, its trace, what it writes, and what it leaves of the trace.
 #[derive(Drop)]
 pub(crate) struct Part {
     words: Vec<String>,
@@ -31,59 +34,85 @@ pub(crate) struct Part {
     trace: String,
     pub(crate) out: String,
     left: String,
-    room: u64,
-    fails: Fails,
-    fickle: Option<u32>,
+    pub(crate) around: Around,
 }
 
 /// What a command did: its exit, what it wrote, and what it left.
 #[derive(Drop)]
 pub(crate) struct Ended {
     pub(crate) exit: u8,
-    pub(crate) out: String,
-    left: String,
+    sink: MemorySink<Global>,
+    left: Vec<u8>,
 }
 
-fn push_line(text: &mut String, line: &str) -> Result<(), AllocError> {
-    text.push_str(line)?;
-    text.push('\n')
+impl Ended {
+    /// What it wrote.
+    pub(crate) fn out(&self) -> &str {
+        from_utf8(self.sink.taken()).unwrap_or("no text")
+    }
+}
+
+/// Adds a line. A text for which memory is wanting is lost.
+fn push_line(text: &mut String, line: &str) {
+    if text.push_str(line).is_err() || text.push('\n').is_err() {
+        text.clear();
+    }
+}
+
+/// The words after the first. The word `?` stands for the number of frames.
+fn words_of(alloc: Global, frames: &str, head: &str) -> Result<Vec<String>, AllocError> {
+    let mut words = Vec::new(alloc);
+    for word in head.split(' ').skip(1) {
+        let word = if word == "?" { frames } else { word };
+        words.push(String::from_str(alloc, word)?)?;
+    }
+    Ok(words)
+}
+
+/// A row with a number in the place of `{d}`, and with its eight digits in that of `{x}`.
+fn numbered(alloc: Global, row: &str, number: u32) -> Result<String, AllocError> {
+    let row = row.replace(alloc, "{d}", &format!(in alloc; "{number}")?)?;
+    row.replace(alloc, "{x}", &format!(in alloc; "{number:08x}")?)
+}
+
+/// What is left of a trace of so many bytes. Calls of the source that fail are passed over.
+fn left_of(
+    alloc: Global,
+    source: &mut MemorySource<Global>,
+    bytes: usize,
+) -> Result<Vec<u8>, AllocError> {
+    let mut left = Vec::new(alloc);
+    for _ in 0..bytes {
+        if let Ok(Some(byte)) = source.next() {
+            left.push(byte)?;
+        }
+    }
+    Ok(left)
 }
 
 impl Part {
-    /// A command, `EXIT WORDS`. A `run`, `processes` or `replicate` without an option has so many frames; elsewhere the word
-    /// `?` stands for their number.
-    pub(crate) fn of_words(alloc: Global, frames: &str, text: &str) -> Result<Part> {
-        let (exit, given) = match text.split_once(' ') {
-            Some((exit, given)) => (exit, Some(given)),
-            None => (text, None),
-        };
-        let mut words = Vec::new(alloc);
-        if let Some(given) = given {
-            for word in given.split(' ') {
-                let word = if word == "?" { frames } else { word };
-                words.push(String::from_str(alloc, word)?)?;
-            }
-            if matches!(given, "run" | "processes" | "replicate") {
-                words.push(String::from_str(alloc, "--frames")?)?;
-                words.push(String::from_str(alloc, frames)?)?;
-            }
-        }
+    /// A command, `EXIT WORDS`.
+    pub(crate) fn of_words(alloc: Global, frames: &str, head: &str) -> Result<Part> {
+        let (exit, _) = head.split_once(' ').unwrap_or((head, ""));
+        let exit = exit.parse()?;
         Ok(Part {
-            words,
-            exit: exit.parse()?,
+            words: words_of(alloc, frames, head)?,
+            exit,
             trace: String::new(alloc),
             out: String::new(alloc),
             left: String::new(alloc),
-            room: if frames == "24" { LITTLE_ROOM } else { ROOM },
-            fails: Fails { source: 0, sink: 0 },
-            fickle: None,
+            around: Around {
+                room: if frames == "24" { LITTLE_ROOM } else { ROOM },
+                source: 0,
+                sink: 0,
+                fickle: u32::MAX,
+            },
         })
     }
 
     /// A command and its rows.
     pub(crate) fn of_block(alloc: Global, frames: &str, block: &str) -> Result<Part> {
         let (head, rows) = block.split_once('\n').unwrap_or((block, ""));
-        let head = head.strip_prefix('$').context("no command")?;
         let mut part = Part::of_words(alloc, frames, head)?;
         for row in rows.lines() {
             part.add(alloc, row)?;
@@ -91,152 +120,105 @@ impl Part {
         Ok(part)
     }
 
-    /// A run of 24 frames with these lines, of which each is after a bar but the first.
-    pub(crate) fn of_look(alloc: Global, lines: &str) -> Result<Part> {
-        let mut part = Part::of_words(alloc, "24", "0 run")?;
-        for line in lines.split('|') {
-            push_line(&mut part.trace, line)?;
-        }
-        Ok(part)
-    }
-
     /// A line of the trace and its reply, or another row.
     fn add(&mut self, alloc: Global, row: &str) -> Result<()> {
-        if let Some(line) = row.strip_prefix('>') {
-            push_line(&mut self.out, line)?;
-        } else if let Some(line) = row.strip_prefix('<') {
-            push_line(&mut self.trace, line)?;
-            push_line(&mut self.left, line)?;
-        } else if let Some(line) = row.strip_prefix('-') {
-            push_line(&mut self.trace, line)?;
-        } else if let Some(bytes) = row.strip_prefix('+') {
-            self.trace.push_str(bytes)?;
-        } else if let Some(option) = row.strip_prefix('@') {
-            self.set(option)?;
-        } else if let Some(row) = row.strip_prefix('*') {
-            self.repeat(alloc, row)?;
-        } else {
-            self.answer(row)?;
+        let (kind, rest) = row.split_at_checked(1).context("an empty row")?;
+        match kind {
+            ">" => push_line(&mut self.out, rest),
+            "-" => push_line(&mut self.trace, rest),
+            "<" => {
+                push_line(&mut self.trace, rest);
+                push_line(&mut self.left, rest);
+            }
+            "+" => self.trace.push_str(rest)?,
+            "@" => return self.around.set(rest),
+            "*" => return self.repeat(alloc, rest),
+            _ => self.answer(row),
         }
         Ok(())
     }
 
-    fn answer(&mut self, row: &str) -> Result<()> {
-        let (line, reply) = row.split_once('|').context("a row has no bar")?;
-        push_line(&mut self.trace, line)?;
-        push_line(&mut self.out, reply)?;
-        Ok(())
+    /// A line of the trace and its reply.
+    fn answer(&mut self, row: &str) {
+        let (line, reply) = row.split_once('|').unwrap_or((row, "a row has no bar"));
+        push_line(&mut self.trace, line);
+        push_line(&mut self.out, reply);
     }
 
-    /// A call that fails, the sector whose label changes, or the room of the memory.
-    fn set(&mut self, option: &str) -> Result<()> {
-        let (name, number) = option.split_once(' ').context("no option")?;
-        match name {
-            "source" => self.fails.source = number.parse()?,
-            "sink" => self.fails.sink = number.parse()?,
-            "fickle" => self.fickle = Some(number.parse()?),
-            _ => self.room = number.parse()?,
-        }
-        Ok(())
-    }
-
-    /// A row for each number from one on, so many, each by so much greater: `FROM COUNT STEP ROW`. `{d}` stands for the number,
-    /// `{x}` for its eight digits.
+    /// A row for each number from one on, so many, each by so much greater: `FROM COUNT STEP: ROW`.
     fn repeat(&mut self, alloc: Global, row: &str) -> Result<()> {
-        let (from, rest) = row.split_once(' ').context("no first number")?;
-        let (count, rest) = rest.split_once(' ').context("no count")?;
-        let (step, row) = rest.split_once(' ').context("no step")?;
-        let mut number: u32 = from.parse()?;
-        let step: u32 = step.parse()?;
-        for _ in 0..count.parse::<u32>()? {
-            let digits = format!(in alloc; "{number}")?;
-            let hex = format!(in alloc; "{number:08x}")?;
-            let row = replaced(alloc, row, "{d}", &digits)?;
-            let row = replaced(alloc, &row, "{x}", &hex)?;
-            self.answer(&row)?;
-            number = number.wrapping_add(step);
+        let (numbers, row) = row.split_once(": ").context("no row")?;
+        let [from, count, step]: [u32; 3] = numbers_of(numbers)?;
+        for turn in 0..count {
+            let number = from.wrapping_add(step.wrapping_mul(turn));
+            self.answer(&numbered(alloc, row, number)?);
         }
         Ok(())
-    }
-
-    /// Carries the command out on a disk, beside a second one of no sector.
-    pub(crate) fn carry_out<D: Disk>(
-        &self,
-        alloc: Global,
-        disk: &mut D,
-        fails: Fails,
-    ) -> Result<Ended> {
-        self.carry_out_beside(alloc, disk, &mut MemoryDisk::new(alloc, 0)?, fails)
     }
 
     /// Carries the command out on a disk, beside a second one.
-    pub(crate) fn carry_out_beside<D: Disk, E: Disk>(
+    pub(crate) fn carry_out<D: Disk, E: Disk>(
         &self,
         alloc: Global,
         disk: &mut D,
         other: &mut E,
-        fails: Fails,
     ) -> Result<Ended> {
-        let heap = LocalHeap::new(alloc, self.room as usize)?;
-        let mut source = MemorySource::new(alloc, self.trace.as_bytes(), &[fails.source])?;
-        let mut sink = MemorySink::new(alloc, 1_000_000, &[fails.sink])?;
+        let fickle = self.around.fickle;
+        let mut disk = FickleDisk { disk, fickle };
+        let heap = LocalHeap::new(alloc, self.around.room)?;
+        let trace = self.trace.as_bytes();
+        let mut source = MemorySource::new(alloc, trace, &[self.around.source])?;
+        let mut sink = MemorySink::new(alloc, 1_000_000, &[self.around.sink])?;
         let status = pilot(
             alloc,
             &heap,
             &self.words,
-            disk,
+            &mut disk,
             other,
             &mut source,
             &mut sink,
         );
-        let mut left = Vec::new(alloc);
-        for _ in self.trace.as_bytes() {
-            if let Ok(Some(byte)) = source.next() {
-                left.push(byte)?;
-            }
-        }
         Ok(Ended {
             exit: status.exit(),
-            out: String::from_str(alloc, from_utf8(sink.taken())?)?,
-            left: String::from_str(alloc, from_utf8(&left)?)?,
+            left: left_of(alloc, &mut source, trace.len())?,
+            sink,
         })
     }
 
     /// Whether it did so.
     pub(crate) fn is(&self, ended: &Ended) -> bool {
-        self.exit == ended.exit && self.out == ended.out && self.left == ended.left
+        self.exit == ended.exit
+            && self.out.as_bytes() == ended.sink.taken()
+            && self.left.as_bytes() == ended.left.as_slice()
     }
 
-    /// Carries the command out as its rows say.
-    fn end<D: Disk, E: Disk>(&self, alloc: Global, disk: &mut D, other: &mut E) -> Result<Ended> {
-        match self.fickle {
-            Some(fickle) => self.carry_out(alloc, &mut FickleDisk { disk, fickle }, self.fails),
-            None => self.carry_out_beside(alloc, disk, other, self.fails),
-        }
-    }
-
-    /// What the command did where it did not do what its rows say; else no text.
-    pub(crate) fn wrong<D: Disk, E: Disk>(
+    /// Carries the command out. The error says what it did where that is not what its rows say.
+    pub(crate) fn does<D: Disk, E: Disk>(
         &self,
         alloc: Global,
         disk: &mut D,
         other: &mut E,
-    ) -> Result<String> {
-        let ended = self.end(alloc, disk, other)?;
+    ) -> Result<()> {
+        let ended = self.carry_out(alloc, disk, other)?;
         if self.is(&ended) {
-            return Ok(String::new(alloc));
+            return Ok(());
         }
-        let Ended { exit, out, left } = ended;
-        Ok(format!(in alloc; "status {exit}, leaves {left:?} and writes\n{out}")?)
+        let (exit, left, out) = (ended.exit, ended.left.len(), ended.out());
+        bail!("status {exit}, leaves {left} bytes and writes\n{out}")
     }
 }
 
-/// A text with another in the place of a mark, which stands there once at most.
-fn replaced(alloc: Global, text: &str, mark: &str, by: &str) -> Result<String, AllocError> {
-    let (before, after) = text.split_once(mark).unwrap_or((text, ""));
-    let by = if before.len() < text.len() { by } else { "" };
-    let mut whole = String::from_str(alloc, before)?;
-    whole.push_str(by)?;
-    whole.push_str(after)?;
-    Ok(whole)
+impl Around {
+    /// A call that fails, the sector whose label changes, or the room of the memory.
+    fn set(&mut self, option: &str) -> Result<()> {
+        let (name, number) = option.split_once(' ').context("no option")?;
+        let number: u32 = number.parse()?;
+        match name {
+            "source" => self.source = u64::from(number),
+            "sink" => self.sink = u64::from(number),
+            "fickle" => self.fickle = number,
+            _ => self.room = number as usize,
+        }
+        Ok(())
+    }
 }

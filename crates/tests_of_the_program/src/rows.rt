@@ -1,11 +1,11 @@
-//! The blocks of a section, one after the other over one disk.
+//! The blocks of a section, one after the other over one disk. An error says what they show that is not as they say.
 
 use crate::part::Part;
-use crate::sector;
-use anyhow::Result;
+use crate::sector::{self, numbers_of};
+use anyhow::{Result, bail};
 use image_disk::{new_image, open_image};
 use labelled_disk::{Disk, DiskWrite, MemoryDisk};
-use std::alloc::Global;
+use std::alloc::{AllocError, Global};
 use std::fs;
 
 /// How many writes a disk records.
@@ -21,127 +21,116 @@ pub(crate) struct Disks {
     pub(crate) others: u32,
 }
 
-/// What a block shows that is not as it says, over a disk and a second one: a command with its rows, or lines on sectors.
-fn wrong_on<D: Disk, E: Disk>(
+/// A command with its rows, or lines on sectors, over a disk and a second one.
+fn block_on<D: Disk, E: Disk>(
     alloc: Global,
     disk: &mut D,
     other: &mut E,
     frames: &str,
     block: &str,
-) -> Result<String> {
-    if block.starts_with('$') {
-        return Part::of_block(alloc, frames, block)?.wrong(alloc, disk, other);
+) -> Result<()> {
+    if let Some(command) = block.strip_prefix('$') {
+        return Part::of_block(alloc, frames, command)?.does(alloc, disk, other);
     }
     for line in block.lines() {
-        let wrong = sector::wrong(alloc, disk, line)?;
-        if !wrong.is_empty() {
-            return Ok(wrong);
-        }
+        sector::line(alloc, disk, line)?;
     }
-    Ok(String::new(alloc))
+    Ok(())
 }
 
-/// What a block shows that is not as it says. One that begins with `&` is over the second disk.
-pub(crate) fn wrong<D: Disk, E: Disk>(
+/// A block. One that begins with `&` is over the second disk.
+fn block<D: Disk, E: Disk>(
     alloc: Global,
     disk: &mut D,
     other: &mut E,
     frames: &str,
     block: &str,
-) -> Result<String> {
+) -> Result<()> {
     match block.strip_prefix('&') {
-        Some(block) => wrong_on(alloc, other, disk, frames, block),
-        None => wrong_on(alloc, disk, other, frames, block),
+        Some(block) => block_on(alloc, other, disk, frames, block),
+        None => block_on(alloc, disk, other, frames, block),
     }
 }
 
-/// What such blocks show over disks in memory, and how many sectors they moved on the first.
-#[derive(Drop)]
-struct Shown {
-    wrong: String,
-    moved: u64,
+/// Blocks in a row.
+pub(crate) fn blocks<D: Disk, E: Disk>(
+    alloc: Global,
+    disk: &mut D,
+    other: &mut E,
+    frames: &str,
+    blocks: &str,
+) -> Result<()> {
+    for text in blocks.split("\n\n") {
+        block(alloc, disk, other, frames, text)?;
+    }
+    Ok(())
 }
 
-/// The same of blocks with so many frames, up to the first that is not as it says.
-fn shown_in_memory(alloc: Global, disks: Disks, frames: &str, blocks: &str) -> Result<Shown> {
+/// The same over disks in memory. Gives how many sectors were moved on the first.
+fn in_memory(alloc: Global, disks: Disks, frames: &str, text: &str) -> Result<u64> {
     let mut disk = MemoryDisk::new(alloc, disks.sectors)?;
     let mut other = MemoryDisk::new(alloc, disks.others)?;
-    for block in blocks.split("\n\n") {
-        let wrong = wrong(alloc, &mut disk, &mut other, frames, block)?;
-        if !wrong.is_empty() {
-            let wrong = format!(in alloc; "with {frames} frames: {wrong}\n{block}")?;
-            return Ok(Shown { wrong, moved: 0 });
-        }
-    }
-    Ok(Shown {
-        wrong: String::new(alloc),
-        moved: disk.transfers(),
-    })
+    blocks(alloc, &mut disk, &mut other, frames, text)?;
+    Ok(disk.transfers())
 }
 
-/// What such blocks show over a disk in memory, in few frames and in many; and where fewer sectors have to be moved in the many,
-/// whether they are.
-pub(crate) fn wrong_in_memory(
-    alloc: Global,
-    disks: Disks,
-    blocks: &str,
-    fewer: bool,
-) -> Result<String> {
-    let few = shown_in_memory(alloc, disks, "24", blocks)?;
-    if !few.wrong.is_empty() {
-        return Ok(few.wrong);
-    }
-    let many = shown_in_memory(alloc, disks, "4096", blocks)?;
-    if many.wrong.is_empty() && fewer && few.moved <= many.moved {
-        let (few, many) = (few.moved, many.moved);
-        return Ok(format!(in alloc; "with 24 frames it moves {few} sectors, with 4096 {many}")?);
-    }
-    Ok(many.wrong)
-}
-
-/// What such blocks show over a disk that records its writes; and whether the pages of these sectors were written in this order.
-pub(crate) fn wrong_order(
-    alloc: Global,
-    sectors: u32,
-    blocks: &str,
-    order: &str,
-) -> Result<String> {
-    let mut disk = MemoryDisk::failing(alloc, sectors, &[], WRITES)?;
-    let mut other = MemoryDisk::new(alloc, 0)?;
-    for block in blocks.split("\n\n") {
-        let wrong = wrong(alloc, &mut disk, &mut other, "24", block)?;
-        if !wrong.is_empty() {
-            return Ok(wrong);
-        }
-    }
-    let mut written = String::new(alloc);
-    for write in disk.written() {
-        if let DiskWrite::Page { sector, .. } = write {
-            let place = format!(in alloc; "{sector}")?;
-            if order.split(' ').any(|place_of| place_of == place.as_str()) {
-                written.push_str(&place)?;
-                written.push(' ')?;
-            }
-        }
-    }
-    if written.trim_end() == order {
-        return Ok(String::new(alloc));
-    }
-    Ok(format!(in alloc; "written in this order: {written}")?)
+/// A block over the image file, which is opened for it.
+fn on_image(rt: &HostRuntime, other: &mut MemoryDisk<Global>, text: &str) -> Result<()> {
+    let mut disk = open_image(rt, IMAGE)?;
+    block(rt.alloc(), &mut disk, other, "24", text)
 }
 
 /// The same over an image file, which is opened anew for each block, in 24 frames; the second disk is in memory.
-pub(crate) fn wrong_in_a_file(rt: &HostRuntime, disks: Disks, blocks: &str) -> Result<String> {
-    let alloc = rt.alloc();
+fn in_a_file(rt: &HostRuntime, disks: Disks, text: &str) -> Result<()> {
+    let mut other = MemoryDisk::new(rt.alloc(), disks.others)?;
     let _ = fs::remove_file(rt, IMAGE);
     drop(new_image(rt, disks.sectors, IMAGE)?);
-    let mut other = MemoryDisk::new(alloc, disks.others)?;
-    for block in blocks.split("\n\n") {
-        let mut disk = open_image(rt, IMAGE)?;
-        let wrong = wrong(alloc, &mut disk, &mut other, "24", block)?;
-        if !wrong.is_empty() {
-            return Ok(format!(in alloc; "over an image file: {wrong}\n{block}")?);
+    for text in text.split("\n\n") {
+        on_image(rt, &mut other, text)?;
+    }
+    Ok(())
+}
+
+/// The same in few frames and in many, where a `^` in the end has fewer sectors moved in the many; and over an image file.
+pub(crate) fn everywhere(rt: &HostRuntime, disks: Disks, text: &str) -> Result<()> {
+    let without = text.trim_end_matches("\n\n^");
+    let few = in_memory(rt.alloc(), disks, "24", without)?;
+    let many = in_memory(rt.alloc(), disks, "4096", without)?;
+    if without.len() < text.len() && few <= many {
+        bail!("with 24 frames it moves {few} sectors, with 4096 {many}");
+    }
+    if disks.sectors == 0 {
+        return Ok(());
+    }
+    in_a_file(rt, disks, without)
+}
+
+/// Those of two sectors whose pages were written, in this order.
+fn written(alloc: Global, writes: &[DiskWrite], pair: [u32; 2]) -> Result<Vec<u32>, AllocError> {
+    let mut found = Vec::new(alloc);
+    for write in writes {
+        if let DiskWrite::Page { sector, .. } = write {
+            if pair.contains(sector) {
+                found.push(*sector)?;
+            }
         }
     }
-    Ok(String::new(alloc))
+    Ok(found)
+}
+
+/// The same over a disk that records its writes. The pages of two sectors have to be written in this order, each once.
+pub(crate) fn in_order(alloc: Global, sectors: u32, text: &str, order: &str) -> Result<()> {
+    let order: [u32; 2] = numbers_of(order)?;
+    let mut disk = MemoryDisk::failing(alloc, sectors, &[], WRITES)?;
+    blocks(
+        alloc,
+        &mut disk,
+        &mut MemoryDisk::new(alloc, 0)?,
+        "24",
+        text,
+    )?;
+    if written(alloc, disk.written(), order)?.as_slice() != order.as_slice() {
+        bail!("written in another order");
+    }
+    Ok(())
 }

@@ -1,23 +1,35 @@
-//! Commands over a volume that are stopped at each transfer, at each call of the source and at each piece of the sink in turn. Then
-//! the volume is restored twice, and looked at.
+//! Commands that are stopped at each transfer of either disk, at each call of the source and at each piece of the sink in turn. Then
+//! the volume is restored twice, and looked at. An error says what is not as it should be.
 
-use crate::part::{Fails, Part};
-use anyhow::{Context, Result};
+use crate::part::{Ended, Part};
+use crate::rows::{self, Disks};
+use anyhow::{Context, Result, bail};
 use labelled_disk::{Disk, MemoryDisk};
 use std::alloc::Global;
 
 /// How many writes a disk keeps at most.
 const WRITES: u32 = 10_000;
 
-/// What stops a command.
+/// The blocks before the commands, the commands, and a run over the volume with the answers that it may get.
 #[derive(Clone, Copy)]
+struct Section<'a> {
+    disks: Disks,
+    before: &'a str,
+    commands: &'a str,
+    look: &'a str,
+    answers: &'a str,
+}
+
+/// What stops a command.
+#[derive(Clone, Copy, PartialEq)]
 enum Kind {
-    Transfer,
+    First,
+    Second,
     Source,
     Sink,
 }
 
-/// The call that fails, counted from 1: of the disk after the making of the volume, or of a stream in each command.
+/// The call that fails: of a disk, or of a stream in each command.
 #[derive(Clone, Copy)]
 struct Stop {
     kind: Kind,
@@ -25,156 +37,168 @@ struct Stop {
 }
 
 impl Stop {
-    fn fails(self) -> Fails {
-        let (source, sink) = match self.kind {
-            Kind::Transfer => (0, 0),
-            Kind::Source => (self.number, 0),
-            Kind::Sink => (0, self.number),
-        };
-        Fails { source, sink }
+    /// Its number where it is of this kind, else 0.
+    fn at(self, kind: Kind) -> u64 {
+        if self.kind == kind { self.number } else { 0 }
     }
 
-    fn transfer(self, sectors: u32) -> u64 {
+    /// The exit of a command that is stopped, and the line that it writes in the end.
+    fn end(self) -> (u8, &'static str) {
         match self.kind {
-            Kind::Transfer => self.number.saturating_add(u64::from(sectors) + 1),
-            Kind::Source | Kind::Sink => 0,
-        }
-    }
-
-    fn exit(self) -> u8 {
-        match self.kind {
-            Kind::Transfer => 3,
-            Kind::Source | Kind::Sink => 4,
+            Kind::First => (3, "stopped disk\n"),
+            Kind::Second => (3, "stopped other disk\n"),
+            Kind::Source | Kind::Sink => (4, ""),
         }
     }
 }
 
-/// How far the commands came.
+/// Both disks.
 #[derive(Drop)]
+struct Two {
+    disk: MemoryDisk<Global>,
+    other: MemoryDisk<Global>,
+}
+
+/// How many lines were written, and whether nothing was stopped.
+#[derive(Clone, Copy)]
 struct Reached {
     lines: usize,
     ended: bool,
-    wrong: String,
 }
 
-pub(crate) fn lines_of(text: &str) -> usize {
-    text.lines().count()
+/// Both disks after the blocks before the commands.
+fn made(alloc: Global, section: Section<'_>, stop: Stop) -> Result<Two> {
+    let Disks { sectors, others } = section.disks;
+    let mut disk = MemoryDisk::failing(alloc, sectors, &[stop.at(Kind::First)], WRITES)?;
+    let mut other = MemoryDisk::failing(alloc, others, &[stop.at(Kind::Second)], WRITES)?;
+    rows::blocks(alloc, &mut disk, &mut other, "24", section.before)?;
+    Ok(Two { disk, other })
 }
 
-/// Carries out commands until one of them is stopped. It has written whole lines of what its rows say, and `stopped disk` where the
-/// disk failed.
-fn carry_out(
-    alloc: Global,
-    disk: &mut MemoryDisk<Global>,
-    steps: &str,
-    stop: Stop,
-) -> Result<Reached> {
-    let mut lines = 0usize;
-    for block in steps.split("\n\n") {
-        let part = Part::of_block(alloc, "24", block)?;
-        let ended = part.carry_out(alloc, disk, stop.fails())?;
-        if part.is(&ended) {
-            lines = lines.saturating_add(lines_of(&part.out));
-            continue;
-        }
-        let text = ended
-            .out
-            .strip_suffix("stopped disk\n")
-            .unwrap_or(&ended.out);
-        let whole = text.is_empty() || text.ends_with('\n');
-        let wrong = if ended.exit == stop.exit() && part.out.starts_with(text) && whole {
-            String::new(alloc)
-        } else {
-            format!(in alloc; "status {}, {}", ended.exit, ended.out)?
-        };
-        return Ok(Reached {
-            lines: lines.saturating_add(lines_of(text)),
-            ended: false,
-            wrong,
-        });
+/// What a command that was stopped had written before: whole lines of what its rows say.
+fn written<'a>(part: &Part, ended: &'a Ended, stop: Stop) -> Option<&'a str> {
+    let (exit, last) = stop.end();
+    let text = ended.out().strip_suffix(last)?;
+    let whole = text.is_empty() || text.ends_with('\n');
+    if ended.exit == exit && whole && part.out.starts_with(text) {
+        return Some(text);
     }
+    None
+}
+
+/// One command.
+fn command(alloc: Global, two: &mut Two, block: &str, stop: Stop) -> Result<Reached> {
+    let mut part = Part::of_block(alloc, "24", block)?;
+    part.around.source = stop.at(Kind::Source);
+    part.around.sink = stop.at(Kind::Sink);
+    let ended = part.carry_out(alloc, &mut two.disk, &mut two.other)?;
+    if part.is(&ended) {
+        let lines = part.out.lines().count();
+        return Ok(Reached { lines, ended: true });
+    }
+    let Some(text) = written(&part, &ended, stop) else {
+        bail!("status {} after\n{}", ended.exit, ended.out());
+    };
+    let lines = text.lines().count();
     Ok(Reached {
         lines,
-        ended: true,
-        wrong: String::new(alloc),
+        ended: false,
     })
 }
 
-/// Restores a volume twice, and gives what a run then answers, each line ended by a bar; or what the second restoration writes where
-/// it frees a sector.
-pub(crate) fn restored(
-    alloc: Global,
-    disk: &mut MemoryDisk<Global>,
-    look: &Part,
-) -> Result<String> {
-    let none = Fails { source: 0, sink: 0 };
-    let scavenge = Part::of_words(alloc, "24", "0 scavenge")?;
-    let _ = scavenge.carry_out(alloc, disk, none)?;
-    let again = scavenge.carry_out(alloc, disk, none)?;
-    let out = if again.out.ends_with(" 0 0\n") {
-        look.carry_out(alloc, disk, none)?.out
-    } else {
-        again.out
+/// Commands until one of them is stopped.
+fn commands(alloc: Global, two: &mut Two, blocks: &str, stop: Stop) -> Result<Reached> {
+    let mut all = Reached {
+        lines: 0,
+        ended: true,
     };
-    let mut text = String::new(alloc);
-    for line in out.lines() {
-        text.push_str(line)?;
-        text.push('|')?;
-    }
-    Ok(text)
-}
-
-/// Whether the answer, `LEAST MOST TEXT`, is this one, and so many lines may have been answered before it.
-pub(crate) fn is_answer(answer: &str, lines: usize, text: &str) -> Result<bool> {
-    let (least, rest) = answer.split_once(' ').context("no least number")?;
-    let (most, wanted) = rest.split_once(' ').context("no greatest number")?;
-    Ok(least.parse::<usize>()? <= lines && lines <= most.parse()? && wanted == text)
-}
-
-/// One stop of the commands. Gives what is not as it should be.
-fn wrong_stop(alloc: Global, sectors: u32, steps: &str, look: &str, stop: Stop) -> Result<Reached> {
-    let (trace, answers) = look.split_once('\n').context("no answers")?;
-    let mut disk = MemoryDisk::failing(alloc, sectors, &[stop.transfer(sectors)], WRITES)?;
-    let none = Fails { source: 0, sink: 0 };
-    let format = Part::of_words(alloc, "24", "0 format --serial 7")?;
-    let _ = format.carry_out(alloc, &mut disk, none)?;
-    let mut reached = carry_out(alloc, &mut disk, steps, stop)?;
-    let look = Part::of_look(alloc, trace)?;
-    let text = restored(alloc, &mut disk, &look)?;
-    for answer in answers.lines() {
-        if is_answer(answer, reached.lines, &text)? {
-            return Ok(reached);
+    for block in blocks.split("\n\n") {
+        if all.ended {
+            let block = block.strip_prefix('$').context("no command")?;
+            let Reached { lines, ended } = command(alloc, two, block, stop)?;
+            all = Reached {
+                lines: all.lines.saturating_add(lines),
+                ended,
+            };
         }
     }
-    if reached.wrong.is_empty() {
-        let lines = reached.lines;
-        reached.wrong = format!(in alloc; "after {lines} lines {text}")?;
-    }
-    Ok(reached)
+    Ok(all)
 }
 
-/// The stops of one kind, until the commands end.
-fn wrong_stops(alloc: Global, sectors: u32, steps: &str, look: &str, kind: Kind) -> Result<String> {
-    for number in 1..10_000 {
-        let stop = Stop { kind, number };
-        let Reached { ended, wrong, .. } = wrong_stop(alloc, sectors, steps, look, stop)?;
-        if !wrong.is_empty() {
-            return Ok(format!(in alloc; "stop {number}: {wrong}")?);
-        }
-        if ended {
-            return Ok(wrong);
-        }
-    }
-    Ok(String::from_str(alloc, "no end")?)
+/// What a command does on one disk.
+fn done(alloc: Global, disk: &mut MemoryDisk<Global>, block: &str) -> Result<Ended> {
+    let part = Part::of_block(alloc, "24", block)?;
+    part.carry_out(alloc, disk, &mut MemoryDisk::new(alloc, 0)?)
 }
 
-/// What the first stop shows that is not as the section says.
-pub(crate) fn wrong(alloc: Global, sectors: u32, steps: &str, look: &str) -> Result<String> {
-    for kind in [Kind::Transfer, Kind::Source, Kind::Sink] {
-        let wrong = wrong_stops(alloc, sectors, steps, look, kind)?;
-        if !wrong.is_empty() {
-            return Ok(wrong);
+/// Restores a volume twice, and gives what a run then answers, each line ended by a bar; or what the second restoration writes where
+/// it frees a sector or there is no volume.
+fn restored(alloc: Global, disk: &mut MemoryDisk<Global>, look: &str) -> Result<String> {
+    done(alloc, disk, "0 scavenge")?;
+    let again = done(alloc, disk, "0 scavenge")?;
+    let last = if again.out().ends_with(" 0 0\n") {
+        done(alloc, disk, look)?
+    } else {
+        again
+    };
+    Ok(last.out().replace(alloc, '\n', "|")?)
+}
+
+/// Whether the answer, `LEAST MOST TEXT`, is this one, and so many lines may have been written before it.
+fn is_answer(answer: &str, lines: usize, text: &str) -> Option<bool> {
+    let (least, rest) = answer.split_once(' ')?;
+    let (most, wanted) = rest.split_once(' ')?;
+    let least: usize = least.parse().ok()?;
+    let most: usize = most.parse().ok()?;
+    Some(least <= lines && lines <= most && wanted == text)
+}
+
+/// One stop of the commands. Gives whether they ended before it.
+fn turn(alloc: Global, section: Section<'_>, stop: Stop) -> Result<bool> {
+    let mut two = made(alloc, section, stop)?;
+    let Reached { lines, ended } = commands(alloc, &mut two, section.commands, stop)?;
+    let text = if section.disks.others == 0 {
+        restored(alloc, &mut two.disk, section.look)?
+    } else {
+        restored(alloc, &mut two.other, section.look)?
+    };
+    for answer in section.answers.lines() {
+        if is_answer(answer, lines, &text) == Some(true) {
+            return Ok(ended);
         }
     }
-    Ok(String::new(alloc))
+    bail!("stop {}, after {lines} lines: {text}", stop.number)
+}
+
+/// The stops of one kind after so many calls, until the commands end.
+fn turns(alloc: Global, section: Section<'_>, kind: Kind, calls: u64) -> Result<()> {
+    for call in 1..10_000 {
+        let number = calls.saturating_add(call);
+        if turn(alloc, section, Stop { kind, number })? {
+            return Ok(());
+        }
+    }
+    bail!("no end")
+}
+
+/// All stops of a section.
+pub(crate) fn everywhere(alloc: Global, disks: Disks, steps: &str, look: &str) -> Result<()> {
+    let (before, commands) = steps.split_once("\n\n%\n\n").context("no commands")?;
+    let (look, answers) = look.split_once("\n\n").context("no answers")?;
+    let section = Section {
+        disks,
+        before,
+        commands,
+        look,
+        answers,
+    };
+    let none = Stop {
+        kind: Kind::First,
+        number: 0,
+    };
+    let two = made(alloc, section, none)?;
+    turns(alloc, section, Kind::First, two.disk.transfers())?;
+    turns(alloc, section, Kind::Second, two.other.transfers())?;
+    turns(alloc, section, Kind::Source, 0)?;
+    turns(alloc, section, Kind::Sink, 0)
 }

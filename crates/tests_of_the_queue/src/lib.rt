@@ -6,10 +6,4 @@ mod disks;
 #[cfg(test)]
 mod drawn;
 #[cfg(test)]
-mod fickle;
-#[cfg(test)]
-mod memory;
-#[cfg(test)]
 mod rows;
-#[cfg(test)]
-mod stopping;
